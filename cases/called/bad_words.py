@@ -98,28 +98,37 @@ def no_text(desk):
             usage(desk, c1, words)
 
 
+FREQUENCIES = "WEEKLY, BIWEEKLY, TWICEMONTHLY, MONTHLY, FOURWEEKS, BIMONTHLY, QUARTERLY, SEMIANNUALLY or ANNUALLY"
+WORDS = "sync, transfer, modify, cancel, repeat, stop, mail, check or show; --help says what each does"
+PORT, KIND = "a number from 0 to 65535", "CHECKING, SAVINGS, MONEYMRKT or CREDITLINE"
 NAMED = (  # a command, the offset of a word, the word in its place, or None where the words end there, and what is told
-    ("sync", 0, "x", "PORT is 'x'; it is a number from 0 to 65535"), ("sync", 0, "080", "PORT is '080'; it is a number from 0 to 65535"),
-    ("sync", 2, "c-1", "CLIENT is 'c-1'; it is 1 to 12 letters and digits"), ("sync", 4, "p" * 65, "PASS isn't 1 to 64 bytes"),
-    ("sync", 0, None, "PORT is missing"), ("sync", 6, None, "COMMAND is missing"), ("sync", 7, None, "NUMBER is missing"),
-    ("sync", 6, "sink", "COMMAND is 'sink'; it is one of the words that are listed above"),
-    ("sync", 8, "checking", "KIND is 'checking'; it is CHECKING, SAVINGS, MONEYMRKT or CREDITLINE"),
-    ("transfer", 11, "1.001", "AMOUNT is '1.001'; it is an amount of dollars, as 10.00"),
-    ("modify", 11, "20240230", "DAY is '20240230'; it is a date, as 20240131"),
-    ("repeat", 13, "DAILY", "FREQ is 'DAILY'; it is one of the words that are listed above"),
-    ("repeat", 14, "1000", "COUNT is '1000'; it is a number from 0 to 999"),
-    ("cancel", 7, "x", "ID is 'x'; it is 1 to 10 digits"), ("mail", 7, "s" * 65, "SUBJECT is '%s'; it is 1 to 64 bytes" % ("s" * 65)))
+    ("sync", 0, "x", "word 1, PORT, is 'x'; it has to be " + PORT),
+    ("sync", 0, "080", "word 1, PORT, is '080'; it has to be " + PORT),
+    ("sync", 2, "c-1", "word 3, CLIENT, is 'c-1'; it has to be 1 to 12 letters and digits"),
+    ("sync", 4, "p" * 65, "word 5, PASS, has to be 1 to 64 bytes"), ("sync", 0, None, "word 1, PORT, is missing"),
+    ("sync", 6, None, "word 7, COMMAND, is missing"), ("sync", 7, None, "word 8, NUMBER, is missing"),
+    ("sync", 6, "sink", "word 7, COMMAND, is 'sink'; it has to be " + WORDS),
+    ("sync", 8, "checking", "word 9, KIND, is 'checking'; it has to be " + KIND),
+    ("transfer", 10, "44.00", "word 11, KIND, is '44.00'; it has to be " + KIND),
+    ("transfer", 11, "1.001", "word 12, AMOUNT, is '1.001'; it has to be an amount of dollars, as 10.00"),
+    ("modify", 11, "20240230", "word 12, DAY, is '20240230'; it has to be a date, as 20240131"),
+    ("repeat", 13, "DAILY", "word 14, FREQ, is 'DAILY'; it has to be " + FREQUENCIES),
+    ("repeat", 14, "1000", "word 15, COUNT, is '1000'; it has to be a number from 0 to 999"),
+    ("cancel", 7, "x", "word 8, ID, is 'x'; it has to be 1 to 10 digits"),
+    ("mail", 7, "s" * 65, "word 8, SUBJECT, is '%s'; it has to be 1 to 64 bytes" % ("s" * 65)),
+)
 
 
 @test
 def the_word_is_named(desk):
-    """the last line names the word that is wrong, or missing, or one too many"""
+    """the last line names the word that is wrong, or missing, or one too many, and little stands before it"""
     for command, offset, word, told in NAMED:
         c1, words = words_of(desk, command)
         words[offset:] = [] if word is None else [word, *words[offset + 1:]]
-        expect(c1.run_words(words).told.decode().split("\n")[-2], told, "the last line of %.200r" % words)
+        lines = c1.run_words(words).told.decode().split("\n")
+        expect((lines[-2], len(lines) < 8), (told, True), "the last line of %.200r, and that there are few" % words)
     c1, words = words_of(desk, "show")
-    expect(c1.run_words(words + ["x"]).told.decode().split("\n")[-2], "'x' is one word too many", "the last line of a word too many")
+    expect(c1.run_words(words + ["x"]).told.decode().split("\n")[-2], "word 8, 'x', is one too many", "the last line of a word too many")
 
 
 @test

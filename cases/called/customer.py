@@ -93,8 +93,9 @@ class Customer:
             self.child.kill()
             self.child.communicate()
             raise Wrong("the run of %r doesn't end" % (words[6:],))
-        judge_advice(words, self.child.returncode, told)
-        return Done(self.child.returncode, output, told, self.text(), began, now())
+        text = self.text()
+        judge_advice(words, self.child.returncode, told, text)
+        return Done(self.child.returncode, output, told, text, began, now())
 
 
 def judge(words, before, link, sent, done, saves=None):

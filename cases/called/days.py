@@ -291,7 +291,7 @@ def killed_anywhere(trial):
 
 @test
 def whose_file(trial):
-    """the store's file is for its owner alone, whatever the umask, and nothing stays beside it"""
+    """the store's file is for its owner alone, whatever the umask, and only the lock's file stays beside it, which is empty"""
     mask = os.umask(0)
     try:
         c1 = trial.customer()
@@ -300,7 +300,9 @@ def whose_file(trial):
     finally:
         os.umask(mask)
     expect(oct(os.stat(c1.store).st_mode & 0o777), "0o600", "the rights of the store")
-    expect([name for name in os.listdir(trial.folder) if name.startswith("c1")], ["c1"], "the files of c1")
+    expect(sorted(name for name in os.listdir(trial.folder) if name.startswith("c1")), ["c1", "c1.lock"], "the files of c1")
+    lock = os.stat(c1.store + ".lock")
+    expect((oct(lock.st_mode & 0o777), lock.st_size), ("0o600", 0), "the rights and the size of the lock's file")
 
 
 @test

@@ -281,6 +281,6 @@ def no_output(desk):
         done = subprocess.run([c1.program, *c1.words(desk.relay.port, TRANSFER)], stdout=full, stderr=subprocess.PIPE)
     desk.relay.last()
     expect((done.returncode, done.stderr.split(b"\n")[0]), (6, b"write failed"), "the end")
-    judge_advice(c1.words(desk.relay.port, TRANSFER), done.returncode, done.stderr)
+    judge_advice(c1.words(desk.relay.port, TRANSFER), done.returncode, done.stderr, c1.text())
     desk.says(c1, "show", "client c1 next 2 done c1-1", LINES[1],
               "transfer 1 POSTEDON 10.00 " + now().strftime("%Y%m%d"))

@@ -3,6 +3,7 @@
 Each connection of a customer gets one to the bank. The bank's reply to a request is read whole before any of it is
 handed on, so that what is then done to it, by the action of this exchange, is done behind the bank's back.
 """
+import functools
 import re
 import socket
 import struct
@@ -12,6 +13,7 @@ from served.link import Link
 from served.server import MAX_SECONDS, Wrong
 
 LENGTH = re.compile(rb"(?i)\r\ncontent-length: *([0-9]+)")
+CONNECTION = re.compile(rb"(?i)\r\nconnection:([^\r]*)\r\n")
 LOOK = 0.02  # seconds
 PIECE = 65536
 
@@ -32,7 +34,16 @@ class Talk:
     def __init__(self):
         self.sent = self.given = b""  # by the customer, and to it
         self.asked = self.answered = b""  # of the bank
-        self.is_reset = False  # whether the customer's connection was
+        self.ends = False  # whether the customer's connection was ended after a reply, or by one that says so
+        self.is_reset = False  # whether it was reset
+
+    def then(self, other):
+        """What was said on this connection, and on one that was made after it."""
+        both = Talk()
+        both.sent, both.given = self.sent + other.sent, self.given + other.given
+        both.asked, both.answered = self.asked + other.asked, self.answered + other.answered
+        both.ends, both.is_reset = other.ends, other.is_reset
+        return both
 
 
 def passes(exchange, number):
@@ -101,6 +112,7 @@ class Relay(threading.Thread):
                 exchange.given = exchange.reply if exchange.given is None else exchange.given
                 talk.given += exchange.given
                 link.sendall(exchange.given)
+                talk.ends = exchange.ends or says_close(exchange.given)
                 if exchange.ends:
                     talk.is_reset = exchange.is_reset
                     if exchange.is_reset:
@@ -121,15 +133,16 @@ class Relay(threading.Thread):
         talk.answered += exchange.reply
 
     def last(self):
-        """What was said on the one connection since this was asked last; nothing where nothing was. The connection of
-        a customer that was killed may still wait to be taken in: all of them are over when this looks."""
+        """What was said on the connections of one run since this was asked last; nothing where nothing was. A run has one,
+        and makes another one only where the one before was ended. The connection of a customer that was killed may still wait
+        to be taken in: all of them are over when this looks."""
         self.calls()
         talks, self.talks = [talk for talk in self.talks if talk.sent], []
         if self.wrong:
             raise self.wrong
-        if len(talks) > 1:
-            raise Wrong("%d connections were made by one run" % len(talks))
-        return talks[0] if talks else Talk()
+        if not all(talk.ends for talk in talks[:-1]):
+            raise Wrong("%d connections were made by one run, where none was ended" % len(talks))
+        return functools.reduce(Talk.then, talks) if talks else Talk()
 
     def calls(self):
         """How many connections were made to it so far, all of which are over. It makes one itself, which is taken in
@@ -147,6 +160,13 @@ class Relay(threading.Thread):
         self.is_over = True
         self.join()
         self.door.close()
+
+
+def says_close(reply):
+    """Whether the head of a reply says that its connection ends after it."""
+    head, end, _ = reply.partition(b"\r\n\r\n")
+    options = b",".join(CONNECTION.findall(head + end)).lower().split(b",")
+    return b"close" in [option.strip() for option in options]
 
 
 def some(link):

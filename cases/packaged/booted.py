@@ -123,9 +123,20 @@ def confined(machine):
         raise Wrong("it may leave a core")
 
 
+def expected(machine):
+    """a bank whose records are gone doesn't start as a new one"""
+    machine.said("systemctl stop ofxbank && mv /%s /root/gone" % RECORDS)
+    refused(machine, 8, again=False)
+    if machine.has("/" + RECORDS):
+        raise Wrong("it made a file")
+    machine.said("mv /root/gone /%s && systemctl start ofxbank" % RECORDS)
+    serves(machine)
+
+
 def sqlite(machine):
     """a bank whose records are an SQLite file is created and opened again within the same bounds"""
     machine.said("""set -e
+rm /etc/ofxbank/begun
 mkdir -p /run/systemd/system/ofxbank.service.d
 cat > /run/systemd/system/ofxbank.service.d/records.conf <<'END'
 [Service]
@@ -231,5 +242,5 @@ def booted(trial):
     with Machine(copy) as machine:
         yield without_setup, machine
         set_up(copy)
-        for test in refusals, starts, killed, confined, sqlite, midnight, proxied, rotated, purged:
+        for test in refusals, starts, killed, confined, expected, sqlite, midnight, proxied, rotated, purged:
             yield test, machine

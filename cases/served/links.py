@@ -327,12 +327,12 @@ def refused_words(program, folder):
         expect(outcome(program, folder, "setup", "-", *rest), (5, "read failed", b""), "the end at a taken port")
 
 
-def silent(said):
-    """A test of a link that says this and then nothing more."""
+def silent(said, least=LIMIT):
+    """A test of a link that says this and then nothing more, while another one waits."""
     def test(program, folder):
         with Server(program, folder) as server, Link(server.port) as first:
             first.send(said)
-            expect_next_in_time(server, LIMIT, LIMIT)
+            expect_next_in_time(server, least, least)
     return test
 
 
@@ -362,7 +362,7 @@ def expect_next_in_time(server, least, most):
 
 # Each waits for the limit.
 UNHURRIED = {
-    "a link that says nothing gives its worker back": silent(b""),
+    "a link that says nothing gives its worker back to who waits": silent(b"", least=1),
     "so does one that says half a head": silent(GOOD[:100]),
     "so does one that says half a second body": silent(GOOD + GOOD[:300]),
     "so does one that reads nothing": unread,

@@ -29,10 +29,11 @@ def bear_limits():
 
 class Server:
     """A run of the program over a setup and a file of records in a folder, which listens once it is made. It is killed
-    where it still runs in the end. It tells of no exchange, where nothing else is said."""
+    where it still runs in the end. It tells of no exchange, where nothing else is said. `environment` are further variables,
+    and `prepare` is called in the process before it becomes the program."""
 
     def __init__(self, program, folder, records="-", workers=1, connections=0, setup=sample("setup"), port=None,
-                 log="off"):
+                 log="off", environment=None, prepare=bear_limits):
         self.port = port or free_port()
         self.told_in = os.path.join(folder, "told")
         with open(os.path.join(folder, "setup"), "wb") as f:
@@ -42,7 +43,7 @@ class Server:
         with open(self.told_in, "wb") as told:
             self.child = subprocess.Popen(
                 words, cwd=folder, stdin=subprocess.DEVNULL, stdout=subprocess.DEVNULL, stderr=told,
-                preexec_fn=bear_limits, env={**os.environ, "OFXBANK_LOG": log})
+                preexec_fn=prepare, env={**os.environ, "OFXBANK_LOG": log, **(environment or {})})
         self.await_listening()
 
     def await_listening(self):

@@ -1,6 +1,6 @@
 -- Accounts that are held: found by their numbers, and given other balances.
 use Rattle.std.proofs.Common.{◌≡◌, ℕ, zero, suc, ◌+◌, ◌<◌, ◌==◌, Bool, true, false, cond, eqb, List, [], ◌∷◌, ◌++◌, length, length-append, Option, None, Some, map, take, drop, refl, ap, ◌∙◌, sym, arith, get_or}
-use Rattle.std.proofs.lemmas.Bool.{eq-eqb, eqb-true}
+use Rattle.std.proofs.lemmas.Bool.{eq-eqb}
 use Rattle.std.proofs.lemmas.List.{map-append, take-append-drop}
 use Rattle.std.proofs.lemmas.Grind.{common_steps}
 use Rattle.std.proofs.Math.ListN.{get_or-append}
@@ -89,9 +89,3 @@ keeps_with_amount account (Some amount) = refl
 pub rising_settled : (given : List Balance) (xs ys : List AccountView) (i n : ℕ) → NumbersRise xs → ys ≡ map (with_balances given) (take i xs) ++ drop i xs → n ≡ length xs → NumbersRise (take n (ys ++ drop (length ys) xs))
 rising_settled given xs ys i n =
     rising_through (with_balances given) (λ account. keeps_with_amount account (amount_given given account.number)) xs ys i n
-
--- where no account came to another balance, all have what they had
-pub settled_none : (given : List Balance) (accounts : List AccountView) → eqb (length given) 0 ≡ true → accounts ≡ map (with_balances given) accounts
-settled_none [] [] none = refl
-settled_none [] (account ∷ accounts) none = ap (λ (l : List AccountView). account ∷ l) (settled_none [] accounts none)
-settled_none (balance ∷ given) accounts none = absurd (let empty : length (balance ∷ given) ≡ 0 = eqb-true (length (balance ∷ given)) 0 none in omega arith)

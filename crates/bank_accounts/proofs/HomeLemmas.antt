@@ -1,20 +1,31 @@
 -- Accounts that are checked out, one after another, and come back.
-use Rattle.std.proofs.Common.{◌≡◌, ℕ, false, Result, Ok, Err, zero, suc, ◌+◌, ◌<◌, ◌≤◌, ◌⊎◌, inl, inr, pos, List, [], ◌∷◌, ◌++◌, length, length-append, Option, None, Some, map, take, drop, set, get_or, refl, ap, ◌∙◌, sym, subst, arith}
-use Rattle.std.proofs.lemmas.Bool.{cases_eq}
-use Rattle.std.proofs.lemmas.List.{append_assoc, map-append, take-append-drop, take-map, take_more, get_or-map, get_or_at, get_or_append_left, get_or-set_same, get_or-set_other, get_or_past, length-set, length-map, ext_get_or}
+use Rattle.std.proofs.Common.{◌≡◌, ℕ, true, false, Result, Ok, Err, zero, suc, ◌+◌, ◌<◌, ◌≤◌, ◌⊎◌, inl, inr, pos, List, [], ◌∷◌, ◌++◌, length, length-append, Option, None, Some, map, take, drop, set, get_or, refl, ap, ◌∙◌, sym, subst, arith}
+use Rattle.std.proofs.lemmas.Bool.{cases_eq, cases_lt}
+use Rattle.std.proofs.lemmas.List.{append_assoc, map-append, take-append-drop, take-map, take_more, get_or-map, get_or_at, get_or_append_left, get_or-set_same, get_or-set_other, get_or_past, get_or-take, length-set, length-map, length-take, ext_get_or}
 use Rattle.std.proofs.lemmas.List.Elements.{All-nil, All-push, All-pop, Contains-append_left, Contains-append_cases, Contains-push}
 use Rattle.std.specs.List.{All, Contains}
 use Rattle.std.specs.List.Sorted.{IsStrictlyIncreasing}
-use Rattle.std.specs.Option.{IfSome, IsSome}
-use Rattle.std.specs.Result.{OnOk, is_err}
+use Rattle.std.specs.Option.{IfSome, IsSome, option_map}
+use Rattle.std.specs.Result.{OnOk, OnErr, is_err}
+use Rattle.std.proofs.lemmas.Option.{slice_get-map, slice_get-get_or, get_or_from_slice_get}
+use Rattle.std.specs.Prelude.{slice_get}
+use Rattle.atomic_table.specs.Seated.{TableId}
 use Rattle.ofx_types.specs.declared.number.AcctId.{AcctId}
-use Rattle.bank_accounts.specs.AccountView.{AccountView}
+use Rattle.bank_accounts.specs.AccountView.{AccountView, Tables}
 use Rattle.bank_accounts.specs.HeldAccounts.{NumbersRise, IsHeld}
 use Rattle.bank_accounts.specs.Pool.{in_pool, AreUnderNumbers, AreAllPooled, AreNumbered, IsOutOrPooled, AreCheckedOut}
+use Rattle.bank_accounts.specs.Sides.{tables_of, IsOf, AreOf}
 use Rattle.bank_accounts.proofs.HeldLemmas.{number_of, rising_prefix}
 
 abbrev rank : AcctId → ℕ
 rank number = number.0
+
+abbrev no_table : TableId
+no_table = record { words = 0; slots = 0; views_name = 0; atom = 0; block = 0; offset = 0; slot_names = [] }
+
+-- an account with that number, whatever else it has
+abbrev nothing_at : AcctId → AccountView
+nothing_at number = record { number = number; balance = record { 0 = pos 0 }; table = no_table }
 
 -- ---- accounts in the order of their numbers
 
@@ -71,17 +82,10 @@ rises_next numbers held account i rising same within is =
 -- no number is held before its turn
 pub not_yet : (numbers : List AcctId) (held : List AccountView) (number : AcctId) (i : ℕ) → IsStrictlyIncreasing (map rank numbers) → map number_of held ≡ take i numbers → i < length numbers → number ≡ get_or numbers i number → IsHeld held number → ⊥
 not_yet numbers held number i rising same within is =
-    let any : AccountView = record { number = number; balance = record { 0 = pos 0 } } in
+    let any : AccountView = nothing_at number in
     not_before held any (rises_next numbers held any i rising same within is)
 
 -- ---- lent, and back
-
-pub lent_none : (all : List (Option AccountView)) → AreCheckedOut all all []
-lent_none all = record {
-  count = refl;
-  each = λ number within. inr (λ h. omega arith, refl);
-  own = All-nil (λ (account : AccountView). in_pool all account.number ≡ Some account);
-}
 
 same_number : (a b : AcctId) → a.0 ≡ b.0 → a ≡ b
 same_number a b same = ap (λ (n : ℕ). record { 0 = n }) same
@@ -104,104 +108,110 @@ held_cases held account number h =
     split (inr (zero, within, is)) = inr is
     split (inr (suc k, within, is)) = absurd (omega arith)
 
+-- no other account is held than before
+not_more : (held : List AccountView) (account : AccountView) (number : AcctId) → (IsHeld held number → ⊥) → (number.0 ≡ account.number.0 → ⊥) → IsHeld (held ++ account ∷ []) number → ⊥
+not_more held account number apart ne h = split (held_cases held account number h)
+  where
+    split : IsHeld held number ⊎ (account.number ≡ number) → ⊥
+    split (inl there) = apart there
+    split (inr is) = ne (ap rank (sym is))
+
 -- An account that is in the pool goes.
-pub lent_more : (all slots : List (Option AccountView)) (held : List AccountView) (account : AccountView) → AreCheckedOut all slots held → in_pool slots account.number ≡ Some account → account.number.0 < length slots → (IsHeld held account.number → ⊥) → AreCheckedOut all (set slots account.number.0 None) (held ++ account ∷ [])
-lent_more all slots held account checked_out pool within apart = record {
+pub lent_more : (tables : Tables) (slots : List (Option AccountView)) (held : List AccountView) (account : AccountView) → AreCheckedOut tables slots held → in_pool slots account.number ≡ Some account → account.number.0 < length slots → (IsHeld held account.number → ⊥) → AreCheckedOut tables (set slots account.number.0 None) (held ++ account ∷ [])
+lent_more tables slots held account checked_out pool within apart = record {
   count = length-set slots account.number.0 None ∙ checked_out.count;
   each = λ number there. step number (checked_out.each number there) (cases_eq number.0 account.number.0);
-  own = All-push (λ (a : AccountView). in_pool all a.number ≡ Some a) held account checked_out.own (own_here (checked_out.each account.number (omega (arith, within, checked_out.count))));
+  pooled = λ number. rest number (cases_eq number.0 account.number.0);
+  own = All-push (IsOf tables) held account checked_out.own (subst (λ (slot : Option AccountView). IfSome slot (IsOf tables)) pool (checked_out.pooled account.number));
 }
   where
-    own_here : IsOutOrPooled all slots held account.number → in_pool all account.number ≡ Some account
-    own_here (inl there) = absurd (apart there.0)
-    own_here (inr there) = sym there.1 ∙ pool
-
     other : (number : AcctId) → (number.0 ≡ account.number.0 → ⊥) → in_pool (set slots account.number.0 None) number ≡ in_pool slots number
     other number ne = get_or-set_other slots account.number.0 number.0 None None ne
 
-    step : (number : AcctId) → IsOutOrPooled all slots held number → (number.0 ≡ account.number.0) ⊎ (number.0 ≡ account.number.0 → ⊥) → IsOutOrPooled all (set slots account.number.0 None) (held ++ account ∷ []) number
+    gone : (number : AcctId) → number.0 ≡ account.number.0 → in_pool (set slots account.number.0 None) number ≡ None
+    gone number same =
+        subst (λ (n : AcctId). in_pool (set slots account.number.0 None) n ≡ None) (same_number account.number number (sym same)) (get_or-set_same slots account.number.0 None None within)
+
+    step : (number : AcctId) → IsOutOrPooled slots held number → (number.0 ≡ account.number.0) ⊎ (number.0 ≡ account.number.0 → ⊥) → IsOutOrPooled (set slots account.number.0 None) (held ++ account ∷ []) number
     step number before (inl same) =
-        inl (
-          subst (IsHeld (held ++ account ∷ [])) (same_number account.number number (sym same)) (held_last held account),
-          subst (λ (n : AcctId). in_pool (set slots account.number.0 None) n ≡ None) (same_number account.number number (sym same)) (get_or-set_same slots account.number.0 None None within),
-        )
+        inl (subst (IsHeld (held ++ account ∷ [])) (same_number account.number number (sym same)) (held_last held account), gone number same)
     step number (inl there) (inr ne) = inl (held_more held account number there.0, other number ne ∙ there.1)
-    step number (inr there) (inr ne) = inr (nowhere number there.0 ne, other number ne ∙ there.1)
-      where
-        nowhere : (number : AcctId) → (IsHeld held number → ⊥) → (number.0 ≡ account.number.0 → ⊥) → IsHeld (held ++ account ∷ []) number → ⊥
-        nowhere number prefix ne h = split (held_cases held account number h)
-          where
-            split : IsHeld held number ⊎ (account.number ≡ number) → ⊥
-            split (inl there) = prefix there
-            split (inr is) = ne (ap rank (sym is))
+    step number (inr there) (inr ne) = inr (not_more held account number there.0 ne, subst IsSome (sym (other number ne)) there.1)
+
+    rest : (number : AcctId) → (number.0 ≡ account.number.0) ⊎ (number.0 ≡ account.number.0 → ⊥) → IfSome (in_pool (set slots account.number.0 None) number) (IsOf tables)
+    rest number (inl same) = subst (λ (slot : Option AccountView). IfSome slot (IsOf tables)) (sym (gone number same)) tt
+    rest number (inr ne) = subst (λ (slot : Option AccountView). IfSome slot (IsOf tables)) (sym (other number ne)) (checked_out.pooled number)
 
 -- The last one that went comes back.
-pub lent_back : (all slots : List (Option AccountView)) (held : List AccountView) (account : AccountView) → AreCheckedOut all slots (held ++ account ∷ []) → NumbersRise (held ++ account ∷ []) → account.number.0 < length slots → AreCheckedOut all (set slots account.number.0 (Some account)) held
-lent_back all slots held account checked_out rising within = record {
+pub lent_back : (tables : Tables) (slots : List (Option AccountView)) (held : List AccountView) (account : AccountView) → AreCheckedOut tables slots (held ++ account ∷ []) → NumbersRise (held ++ account ∷ []) → account.number.0 < length slots → AreCheckedOut tables (set slots account.number.0 (Some account)) held
+lent_back tables slots held account checked_out rising within = record {
   count = length-set slots account.number.0 (Some account) ∙ checked_out.count;
   each = λ number there. step number (checked_out.each number there) (cases_eq number.0 account.number.0);
+  pooled = λ number. rest number (cases_eq number.0 account.number.0);
   own = popped.0;
 }
   where
-    popped : All (λ (a : AccountView). in_pool all a.number ≡ Some a) held × (in_pool all account.number ≡ Some account)
-    popped = All-pop (λ (a : AccountView). in_pool all a.number ≡ Some a) (held ++ account ∷ []) held (Some account) refl checked_out.own
+    popped : AreOf tables held × IsOf tables account
+    popped = All-pop (IsOf tables) (held ++ account ∷ []) held (Some account) refl checked_out.own
 
     other : (number : AcctId) → (number.0 ≡ account.number.0 → ⊥) → in_pool (set slots account.number.0 (Some account)) number ≡ in_pool slots number
     other number ne = get_or-set_other slots account.number.0 number.0 (Some account) None ne
+
+    here : (number : AcctId) → number.0 ≡ account.number.0 → in_pool (set slots account.number.0 (Some account)) number ≡ Some account
+    here number same =
+        subst (λ (n : AcctId). in_pool (set slots account.number.0 (Some account)) n ≡ Some account) (same_number account.number number (sym same))
+        (get_or-set_same slots account.number.0 (Some account) None within)
 
     prefix : (number : AcctId) → (number.0 ≡ account.number.0 → ⊥) → IsHeld held number ⊎ (account.number ≡ number) → IsHeld held number
     prefix number ne (inl there) = there
     prefix number ne (inr is) = absurd (ne (ap rank (sym is)))
 
-    here : (in_pool (set slots account.number.0 (Some account)) account.number) ≡ in_pool all account.number
-    here = get_or-set_same slots account.number.0 (Some account) None within ∙ sym popped.1
-
-    step : (number : AcctId) → IsOutOrPooled all slots (held ++ account ∷ []) number → (number.0 ≡ account.number.0) ⊎ (number.0 ≡ account.number.0 → ⊥) → IsOutOrPooled all (set slots account.number.0 (Some account)) held number
+    step : (number : AcctId) → IsOutOrPooled slots (held ++ account ∷ []) number → (number.0 ≡ account.number.0) ⊎ (number.0 ≡ account.number.0 → ⊥) → IsOutOrPooled (set slots account.number.0 (Some account)) held number
     step number before (inl same) =
         inr (
           subst (λ (n : AcctId). IsHeld held n → ⊥) (same_number account.number number (sym same)) (not_before held account rising),
-          subst (λ (n : AcctId). in_pool (set slots account.number.0 (Some account)) n ≡ in_pool all n) (same_number account.number number (sym same)) here,
+          subst IsSome (sym (here number same)) refl,
         )
     step number (inl there) (inr ne) = inl (prefix number ne (held_cases held account number there.0), other number ne ∙ there.1)
-    step number (inr there) (inr ne) = inr (λ h. there.0 (held_more held account number h), other number ne ∙ there.1)
+    step number (inr there) (inr ne) = inr (λ h. there.0 (held_more held account number h), subst IsSome (sym (other number ne)) there.1)
+
+    rest : (number : AcctId) → (number.0 ≡ account.number.0) ⊎ (number.0 ≡ account.number.0 → ⊥) → IfSome (in_pool (set slots account.number.0 (Some account)) number) (IsOf tables)
+    rest number (inl same) = subst (λ (slot : Option AccountView). IfSome slot (IsOf tables)) (sym (here number same)) popped.1
+    rest number (inr ne) = subst (λ (slot : Option AccountView). IfSome slot (IsOf tables)) (sym (other number ne)) (checked_out.pooled number)
 
 -- Where none is checked out all are in the pool.
-pub lent_all_back : (all slots : List (Option AccountView)) → AreCheckedOut all slots [] → slots ≡ all
-lent_all_back all slots checked_out = ext_get_or None slots all checked_out.count each
+pub lent_all_back : (tables : Tables) (slots : List (Option AccountView)) → AreCheckedOut tables slots [] → AreAllPooled slots
+lent_all_back tables slots checked_out number within = by (checked_out.each number (omega (arith, within, checked_out.count)))
   where
-    by : (number : AcctId) → IsOutOrPooled all slots [] number → in_pool slots number ≡ in_pool all number
-    by number (inl there) = absurd (omega arith)
-    by number (inr there) = there.1
-
-    each : (i : ℕ) → i < length slots → get_or slots i None ≡ get_or all i None
-    each i within = by (record { 0 = i }) (checked_out.each (record { 0 = i }) (omega (arith, within, checked_out.count)))
-
--- An account whose turn it is is in the pool.
-pub lent_there : (all slots : List (Option AccountView)) (held : List AccountView) (number : AcctId) → AreCheckedOut all slots held → AreAllPooled all → number.0 < length all → (IsHeld held number → ⊥) → in_pool slots number ≡ None → ⊥
-lent_there all slots held number checked_out pool within apart none = by (checked_out.each number within)
-  where
-    missing : (found : Option AccountView) → found ≡ None → IsSome found → ⊥
-    missing None is some = cc
-    missing (Some account) is some = cc
-
-    by : IsOutOrPooled all slots held number → ⊥
-    by (inl there) = apart there.0
-    by (inr there) = missing (in_pool all number) (sym there.1 ∙ none) (pool number within)
+    by : IsOutOrPooled slots [] number → IsSome (in_pool slots number)
+    by (inl there) = absurd (omega arith)
+    by (inr there) = there.1
 
 -- what holds where a result is no error
 pub when_ok : {A E : Type 0} (result : Result A E) (P : Type 0) → false ≡ is_err result → OnOk result P → P
 when_ok (Ok done) P is holds = holds
 when_ok (Err refused) P is holds = cc
 
+-- and where it is one
+pub when_err : {A E : Type 0} (result : Result A E) (P : Type 0) → true ≡ is_err result → OnErr result P → P
+when_err (Ok done) P is holds = cc
+when_err (Err refused) P is holds = holds
+
+missing : (found : Option AccountView) → found ≡ None → IsSome found → ⊥
+missing None is some = cc
+missing (Some account) is some = cc
+
 -- ---- one number more
 
--- the accounts of so many numbers are checked out
-pub record HasCheckedOut (all slots : List (Option AccountView)) (held : List AccountView) (numbers : List AcctId) (count : ℕ) : Type 0 where
-  pub checked_out : AreCheckedOut all slots held
-  pub so_far : map (λ (account : AccountView). account.number) held ≡ take count numbers
+-- The accounts of so many numbers are checked out, the others are in the pool.
+pub record HasCheckedOut (all slots : List (Option AccountView)) (start held : List AccountView) (numbers : List AcctId) (i : ℕ) : Type 0 where
+  pub count : length slots ≡ length all
+  pub others : (number : AcctId) → number.0 < length all → (IsHeld held number → ⊥) → IsSome (in_pool slots number)
+  pub checked_out : (tables : Tables) → AreCheckedOut tables all start → AreCheckedOut tables slots held
+  pub so_far : map (λ (account : AccountView). account.number) held ≡ take i numbers
 
-pub lent_next : (all slots : List (Option AccountView)) (held held' : List AccountView) (numbers : List AcctId) (i : ℕ) (number : AcctId) → HasCheckedOut all slots held numbers i → AreAllPooled all → All (λ (n : AcctId). n.0 < length all) numbers → IsStrictlyIncreasing (map rank numbers) → i < length numbers → number ≡ get_or numbers i number → ((account : AccountView) → in_pool slots number ≡ Some account → (account.number ≡ number) × (held' ≡ held ++ account ∷ [])) → HasCheckedOut all (set slots number.0 None) held' numbers (i + 1)
-lent_next all slots held held' numbers i number before pool known rising within is gives = by (in_pool slots number) refl
+pub lent_next : (all slots : List (Option AccountView)) (start held held' : List AccountView) (numbers : List AcctId) (i : ℕ) (number : AcctId) → HasCheckedOut all slots start held numbers i → All (λ (n : AcctId). n.0 < length all) numbers → IsStrictlyIncreasing (map rank numbers) → i < length numbers → number ≡ get_or numbers i number → ((account : AccountView) → in_pool slots number ≡ Some account → (account.number ≡ number) × (held' ≡ held ++ account ∷ [])) → HasCheckedOut all (set slots number.0 None) start held' numbers (i + 1)
+lent_next all slots start held held' numbers i number before known rising within is gives = by (in_pool slots number) refl
   where
     apart : IsHeld held number → ⊥
     apart = not_yet numbers held number i rising before.so_far within is
@@ -209,22 +219,45 @@ lent_next all slots held held' numbers i number before pool known rising within 
     near : number.0 < length all
     near = subst (λ (n : AcctId). n.0 < length all) (sym is) (known i number within)
 
-    by : (found : Option AccountView) → in_pool slots number ≡ found → HasCheckedOut all (set slots number.0 None) held' numbers (i + 1)
-    by None found = absurd (lent_there all slots held number before.checked_out pool near apart found)
+    others : (account : AccountView) → account.number ≡ number → (other : AcctId) → other.0 < length all → (IsHeld (held ++ account ∷ []) other → ⊥) → (other.0 ≡ number.0) ⊎ (other.0 ≡ number.0 → ⊥) → IsSome (in_pool (set slots number.0 None) other)
+    others account at other there free (inl same) =
+        absurd (free (subst (IsHeld (held ++ account ∷ [])) (at ∙ same_number number other (sym same)) (held_last held account)))
+    others account at other there free (inr ne) =
+        subst IsSome (sym (get_or-set_other slots number.0 other.0 None None ne)) (before.others other there (λ h. free (held_more held account other h)))
+
+    by : (found : Option AccountView) → in_pool slots number ≡ found → HasCheckedOut all (set slots number.0 None) start held' numbers (i + 1)
+    by None found = absurd (missing (in_pool slots number) found (before.others number near apart))
     by (Some account) found =
         let both = gives account found in
         let at : number ≡ account.number = sym both.0 in
         record {
-          checked_out =
-              subst (λ (hs : List AccountView). AreCheckedOut all (set slots number.0 None) hs) (sym both.1)
-              (subst (λ (n : AcctId). AreCheckedOut all (set slots n.0 None) (held ++ account ∷ [])) both.0
-              (lent_more all slots held account before.checked_out (subst (λ (n : AcctId). in_pool slots n ≡ Some account) at found)
-              (subst (λ (n : AcctId). n.0 < length slots) at (omega (arith, near, before.checked_out.count)))
+          count = length-set slots number.0 None ∙ before.count;
+          others = λ other there. subst (λ (hs : List AccountView). (IsHeld hs other → ⊥) → IsSome (in_pool (set slots number.0 None) other)) (sym both.1)
+              (λ free. others account both.0 other there free (cases_eq other.0 number.0));
+          checked_out = λ tables first.
+              subst (λ (hs : List AccountView). AreCheckedOut tables (set slots number.0 None) hs) (sym both.1)
+              (subst (λ (n : AcctId). AreCheckedOut tables (set slots n.0 None) (held ++ account ∷ [])) both.0
+              (lent_more tables slots held account (before.checked_out tables first) (subst (λ (n : AcctId). in_pool slots n ≡ Some account) at found)
+              (subst (λ (n : AcctId). n.0 < length slots) at (omega (arith, near, before.count)))
               (subst (λ (n : AcctId). IsHeld held n → ⊥) at apart)));
           so_far =
               ap (map (λ (a : AccountView). a.number)) both.1
               ∙ numbers_next numbers held account i before.so_far within (subst (λ (n : AcctId). n ≡ get_or numbers i n) at is);
         }
+
+-- an account whose turn it is is in the pool
+pub still_pooled : (all slots : List (Option AccountView)) (start held : List AccountView) (numbers : List AcctId) (i : ℕ) (number : AcctId) → HasCheckedOut all slots start held numbers i → All (λ (n : AcctId). n.0 < length all) numbers → IsStrictlyIncreasing (map rank numbers) → i < length numbers → number ≡ get_or numbers i number → in_pool slots number ≡ None → ⊥
+still_pooled all slots start held numbers i number before known rising within is none =
+    missing (in_pool slots number) none
+    (before.others number (subst (λ (n : AcctId). n.0 < length all) (sym is) (known i number within)) (not_yet numbers held number i rising before.so_far within is))
+
+-- those that are checked out are known
+pub held_within : (count : ℕ) (held : List AccountView) (numbers : List AcctId) (i : ℕ) → map (λ (account : AccountView). account.number) held ≡ take i numbers → i ≤ length numbers → All (λ (n : AcctId). n.0 < count) numbers → All (λ (account : AccountView). account.number.0 < count) held
+held_within count held numbers i same within known k d there =
+    let size : length held ≡ i = sym (length-map held number_of) ∙ ap length same ∙ omega (arith, length-take i numbers) in
+    let is : (get_or held k d).number ≡ get_or numbers k d.number =
+    sym (get_or-map number_of held k d d.number there) ∙ ap (λ (ns : List AcctId). get_or ns k d.number) same ∙ get_or-take i numbers k d.number (omega (arith, there, size)) in
+    subst (λ (n : AcctId). n.0 < count) (sym is) (known k d.number (omega (arith, there, size, within)))
 
 -- ---- a row of accounts as places, and back
 
@@ -235,38 +268,64 @@ no_empty_slot all slots prefix rest pool is last =
     let size : length all ≡ length prefix + length (None ∷ rest) = ap length whole ∙ length-append prefix (None ∷ rest) in
     let at : get_or all (length prefix) None ≡ None = ap (λ (ps : List (Option AccountView)). get_or ps (length prefix) None) whole ∙ get_or_at prefix None rest None (length prefix) refl in
     missing (get_or all (length prefix) None) at (pool (record { 0 = length prefix }) (omega (arith, size)))
+
+-- what holds of each account of a row, each at its place, holds of each place
+each_pooled : (accounts : List AccountView) (P : AcctId → AccountView → Type 0) → AreNumbered accounts → ((number : AcctId) (account : AccountView) → slice_get accounts number.0 ≡ Some account → account.number ≡ number → P number account) → (number : AcctId) → IfSome (in_pool (map Some accounts) number) (P number)
+each_pooled accounts P numbered holds number = by (cases_lt number.0 (length accounts))
   where
-    missing : (found : Option AccountView) → found ≡ None → IsSome found → ⊥
-    missing None is some = cc
-    missing (Some account) is some = cc
+    any : AccountView
+    any = nothing_at number
+
+    by : (number.0 < length accounts) ⊎ (length accounts ≤ number.0) → IfSome (in_pool (map Some accounts) number) (P number)
+    by (inl within) =
+        subst (λ (found : Option AccountView). IfSome found (P number)) (sym (get_or-map Some accounts number.0 any None within))
+        (holds number (get_or accounts number.0 any) (slice_get-get_or accounts number.0 any within)
+        (same_number (get_or accounts number.0 any).number number (numbered number.0 any within)))
+    by (inr past) =
+        subst (λ (found : Option AccountView). IfSome found (P number)) (sym (get_or_past (map Some accounts) number.0 None (omega (arith, past, length-map accounts Some)))) tt
 
 pub numbered_slots : (accounts : List AccountView) → AreNumbered accounts → AreUnderNumbers (map Some accounts)
-numbered_slots accounts numbered number = by (cases number.0)
+numbered_slots accounts numbered =
+    each_pooled accounts (λ number account. account.number ≡ number) numbered (λ number account found is. is)
+
+-- All accounts of a row are in the pool.
+pub all_pooled : (accounts : List AccountView) → AreNumbered accounts → AreCheckedOut (tables_of accounts) (map Some accounts) []
+all_pooled accounts numbered = record {
+  count = length-map accounts Some ∙ sym size;
+  each = λ number within. inr (λ h. omega arith, subst IsSome (sym (get_or-map Some accounts number.0 (nothing_at number) None (omega (arith, within, size)))) refl);
+  pooled = each_pooled accounts (λ number. IsOf (tables_of accounts)) numbered own;
+  own = All-nil (IsOf (tables_of accounts));
+}
   where
-    cases : (k : ℕ) → (k < length accounts) ⊎ (length accounts ≤ k)
-    cases k = within_or k (length accounts)
-      where
-        within_or : (k n : ℕ) → (k < n) ⊎ (n ≤ k)
-        within_or zero zero = inr (omega arith)
-        within_or zero (suc n) = inl (omega arith)
-        within_or (suc k) zero = inr (omega arith)
-        within_or (suc k) (suc n) = up (within_or k n)
-          where
-            up : (k < n) ⊎ (n ≤ k) → (suc k < suc n) ⊎ (suc n ≤ suc k)
-            up (inl less) = inl (omega arith)
-            up (inr more) = inr (omega arith)
+    size : length (tables_of accounts) ≡ length accounts
+    size = length-map accounts (λ (a : AccountView). a.table)
 
-    any : AccountView
-    any = record { number = number; balance = record { 0 = pos 0 } }
-
-    by : (number.0 < length accounts) ⊎ (length accounts ≤ number.0) → IfSome (in_pool (map Some accounts) number) (λ (account : AccountView). account.number ≡ number)
-    by (inl within) =
-        subst (λ (found : Option AccountView). IfSome found (λ (account : AccountView). account.number ≡ number)) (sym (get_or-map Some accounts number.0 any None within))
-        (same_number (get_or accounts number.0 any).number number (numbered number.0 any within))
-    by (inr past) =
-        subst (λ (found : Option AccountView). IfSome found (λ (account : AccountView). account.number ≡ number)) (sym (get_or_past (map Some accounts) number.0 None (omega (arith, past, length-map accounts Some)))) tt
+    own : (number : AcctId) (account : AccountView) → slice_get accounts number.0 ≡ Some account → account.number ≡ number → IsOf (tables_of accounts) account
+    own number account found is =
+        subst (λ (n : AcctId). slice_get (tables_of accounts) n.0 ≡ Some account.table) (sym is)
+        (slice_get-map (λ (a : AccountView). a.table) accounts number.0 ∙ ap (option_map (λ (a : AccountView). a.table)) found)
 
 pub slots_numbered : (accounts : List AccountView) → AreUnderNumbers (map Some accounts) → AreNumbered accounts
 slots_numbered accounts under k d within =
     let found : get_or (map Some accounts) k None ≡ Some (get_or accounts k d) = get_or-map Some accounts k d None within in
     ap rank (subst (λ (slot : Option AccountView). IfSome slot (λ (account : AccountView). account.number ≡ record { 0 = k })) found (under (record { 0 = k })))
+
+-- The accounts that come out of the pool have its tables.
+pub tables_back : (tables : Tables) (slots : List (Option AccountView)) (accounts : List AccountView) → map Some accounts ≡ slots → AreNumbered accounts → AreCheckedOut tables slots [] → tables_of accounts ≡ tables
+tables_back tables slots accounts are numbered checked_out = ext_get_or no_table (tables_of accounts) tables size each
+  where
+    table_of : AccountView → TableId
+    table_of account = account.table
+
+    size : length (tables_of accounts) ≡ length tables
+    size = length-map accounts table_of ∙ sym (length-map accounts Some) ∙ ap length are ∙ checked_out.count
+
+    each : (i : ℕ) → i < length (tables_of accounts) → get_or (tables_of accounts) i no_table ≡ get_or tables i no_table
+    each i below =
+        let any : AccountView = nothing_at (record { 0 = i }) in
+        let there : i < length accounts = omega (arith, below, length-map accounts table_of) in
+        let account : AccountView = get_or accounts i any in
+        let slot : get_or slots i None ≡ Some account = ap (λ (ps : List (Option AccountView)). get_or ps i None) (sym are) ∙ get_or-map Some accounts i any None there in
+        let own : slice_get tables account.number.0 ≡ Some account.table = subst (λ (s : Option AccountView). IfSome s (IsOf tables)) slot (checked_out.pooled (record { 0 = i })) in
+        let at : slice_get tables i ≡ Some account.table = subst (λ (n : ℕ). slice_get tables n ≡ Some account.table) (numbered i any there) own in
+        get_or-map table_of accounts i any no_table there ∙ sym (get_or_from_slice_get tables i account.table no_table at)

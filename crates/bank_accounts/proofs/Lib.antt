@@ -1,2 +1,5 @@
 pub mod HeldLemmas
 pub mod HomeLemmas
+pub mod SettledSides
+pub mod Sides
+pub mod Turns

@@ -28,7 +28,7 @@ AreHeld accounts named = All (λ (entry : Option AcctId). IfSome entry (IsHeld a
 
 abbrev pub with_amount : AccountView → Option Cents → AccountView
 with_amount account None = account
-with_amount account (Some amount) = record { number = account.number; balance = amount }
+with_amount account (Some amount) = record { number = account.number; balance = amount; table = account.table }
 
 -- Each of the accounts is one that is named: no other is among them.
 abbrev pub AreNamed : List AccountView → List (Option AcctId) → Type 0

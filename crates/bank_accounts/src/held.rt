@@ -1,18 +1,17 @@
 //! The accounts that are held while an event is answered.
 
-ghost use Rattle.std.specs.Prelude.{◌≡◌, ◌∷◌, ◌++◌, [], map, OnOk, IfErr, OnErr, IfSome, IfNone};
-ghost use Rattle.bank_accounts.specs.HeldAccounts.{NumbersRise, balance_held, with_balances};
+ghost use Rattle.std.specs.Prelude.{◌≡◌, ◌∷◌, ◌++◌, [], OnOk, IfErr, OnErr, IfSome, IfNone};
+ghost use Rattle.bank_accounts.specs.HeldAccounts.{NumbersRise, balance_held};
 ghost use Rattle.bank_accounts.specs.declared.held.HeldFault.TheVariants.{NoMemory};
 
 use crate::account::Account;
-use crate::balances::Balances;
 use ofx_types::{AcctId, Cents};
 use std::alloc::Global;
 use std::marker::Model;
 
 /// Accounts in the order of their numbers, each once.
 pub struct Held {
-    accounts: Vec<Account>,
+    pub(crate) accounts: Vec<Account>,
 }
 
 impl Model for Held {
@@ -34,7 +33,7 @@ impl Drop for Held {
 }
 
 /// Why an account wasn't taken among those held.
-#[derive(Debug, Drop)]
+#[derive(Drop)]
 pub enum HeldFault {
     /// Memory was refused. Here is the account again.
     NoMemory(Account),
@@ -111,23 +110,11 @@ impl Held {
             .map(|account| account.balance())
     }
 
-    /// Sets the new balance of each account that has one. Takes no memory.
-    pub fn set_balances(&mut self, balances: &Balances)
-        ensures { self.new ≡ map (with_balances balances.now.given) self.old }
+    /// The accounts, in the order of their numbers. Takes no memory.
+    pub fn into_vec(self) -> Vec<Account>
+        ensures { result.items ≡ self }
     {
-        if balances.is_empty() {
-            return;
-        }
-        for account in self.accounts.iter_mut() {
-            set_balance(account, balances);
-        }
-    }
-}
-
-fn set_balance(account: &mut Account, balances: &Balances)
-    ensures { account.new ≡ with_balances balances.now.given account.old }
-{
-    if let Some(amount) = balances.get(account.number()) {
-        account.set(amount);
+        let Held { accounts } = self;
+        accounts
     }
 }

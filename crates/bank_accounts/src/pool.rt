@@ -1,11 +1,12 @@
 //! Accounts in the pool, each in the slot of its number. Some are checked out for a while, and come back.
 
-ghost use Rattle.std.specs.Prelude.{◌≡◌, ◌≢◌, ◌<◌, [], ◌∷◌, ◌++◌, List, length, map, set, None, Some, OnOk, OnErr, IfOk, IfSome, Option, All};
+ghost use Rattle.std.specs.Prelude.{◌≡◌, ◌≢◌, ◌<◌, [], ◌∷◌, ◌++◌, length, map, set, None, Some, OnOk, OnErr, IfOk, IfSome, All};
 ghost use Rattle.std.specs.List.Sorted.{IsStrictlyIncreasing};
 ghost use Rattle.ofx_types.specs.declared.number.AcctId.{AcctId};
-ghost use Rattle.bank_accounts.specs.AccountView.{AccountView};
+ghost use Rattle.bank_accounts.specs.AccountView.{AccountView, Tables};
 ghost use Rattle.bank_accounts.specs.HeldAccounts.{NumbersRise};
 ghost use Rattle.bank_accounts.specs.Pool.{in_pool, AreAllPooled, AreCheckedOut, AreNumbered};
+ghost use Rattle.bank_accounts.specs.Sides.{tables_of};
 
 use crate::account::Account;
 use crate::held::Held;
@@ -20,8 +21,8 @@ use std::marker::Model;
 /// use ofx_types::{AcctId, Cents};
 ///
 /// let alloc = rt.alloc();
-/// let first = Account::new(AcctId(0), Cents(10_000));
-/// let second = Account::new(AcctId(1), Cents(5_000));
+/// let (first, _side) = Account::new(alloc, AcctId(0), Cents(10_000)).expect(&rt, "room");
+/// let (second, _side) = Account::new(alloc, AcctId(1), Cents(5_000)).expect(&rt, "room");
 /// let accounts = vec![in alloc; first, second].expect(&rt, "room");
 /// let mut pool = AccountPool::from_vec(alloc, accounts).expect(&rt, "room");
 /// // One account is held while an event is answered. The other one stays in the pool.
@@ -58,7 +59,8 @@ impl AccountPool {
     /// The accounts of a vector, all of them in the pool. They are numbered from 0 in their order.
     pub fn from_vec(alloc: Global, mut accounts: Vec<Account>) -> Result<AccountPool, OutOfMemory>
         requires { AreNumbered accounts.items }
-        ensures { IfOk result (λ pool. pool ≡ map Some accounts.items) }
+        ensures slots { IfOk result (λ pool. pool ≡ map Some accounts.items) }
+        ensures pool { IfOk result (λ pool. AreCheckedOut (tables_of accounts.items) pool []) }
     {
         let mut slots = Vec::with_capacity(alloc, accounts.len())?;
         while let Some(account) = accounts.pop() {
@@ -74,9 +76,8 @@ impl AccountPool {
         requires known { All (λ number. number.0 < length self.old) numbers.now }
         requires pool { AreAllPooled self.old }
         requires none_held { held.old ≡ [] }
-        ensures checked_out { OnOk result (AreCheckedOut self.old self.new held.new) }
+        ensures pool { (tables : Tables) → AreCheckedOut tables self.old held.old → AreCheckedOut tables self.new held.new }
         ensures numbers { OnOk result (map (λ account. account.number) held.new ≡ numbers.now) }
-        ensures refused { OnErr result (self.new ≡ self.old) }
         ensures none_lent { OnErr result (held.new ≡ []) }
     {
         for number in numbers {
@@ -114,7 +115,7 @@ impl AccountPool {
     /// Takes all accounts back that are held. Takes no memory.
     pub fn check_in(&mut self, held: &mut Held)
         requires { All (λ account. account.number.0 < length self.old) held.old }
-        ensures pool { (all : List (Option AccountView)) → AreCheckedOut all self.old held.old → self.new ≡ all }
+        ensures pool { (tables : Tables) → AreCheckedOut tables self.old held.old → AreCheckedOut tables self.new held.new }
         ensures none_held { held.new ≡ [] }
     {
         while let Some(account) = held.pop() {
@@ -127,6 +128,7 @@ impl AccountPool {
         requires { AreAllPooled self }
         ensures numbered { IfOk result (λ accounts. AreNumbered accounts.items) }
         ensures all { IfOk result (λ accounts. map Some accounts.items ≡ self) }
+        ensures tables { IfOk result (λ accounts. (tables : Tables) → AreCheckedOut tables self [] → tables_of accounts.items ≡ tables) }
     {
         let AccountPool { mut slots } = self;
         let mut accounts = Vec::with_capacity(alloc, slots.len())?;

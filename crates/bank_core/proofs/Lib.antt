@@ -4,3 +4,4 @@ pub mod DueAnswers
 pub mod Outcomes
 pub mod Printing
 pub mod OpenedLemmas
+pub mod BookSidesLemmas

@@ -1,5 +1,5 @@
 -- What a file leaves and is answered, by the draft of its asks.
-use Rattle.std.proofs.Common.{◌≡◌, ℕ, ◌+◌, ◌<◌, ◌≤◌, true, List, [], ◌∷◌, ◌++◌, length, length-append, map, Option, None, Some, refl, sym, ap, ◌∙◌, subst, arith}
+use Rattle.std.proofs.Common.{◌≡◌, ℕ, ◌+◌, ◌<◌, ◌≤◌, true, List, [], ◌∷◌, ◌++◌, length, length-append, map, Option, None, Some, refl, sym, ap, ◌∙◌, subst, arith, true≢false}
 use Rattle.std.specs.Prelude.{is_some}
 use Rattle.std.specs.List.{flat_map}
 use Rattle.std.specs.Option.{IfSome}
@@ -76,10 +76,16 @@ same_prepared : (setup : Setup) (S : State) (event : Event) (after other : State
 same_prepared setup S event after other reply reported is_after is_reply =
     ap (λ (T : State). prepared_with setup S event T reply) is_after ∙ ap (prepared_with setup S event other) is_reply
 
-pub IsPrepared-again : (setup : Setup) (S : State) (held : List AccountView) (user : UserId) (at : Moment) (draft : DraftView) (added : AddedView) (bytes : List ℕ) → draft ≡ started setup S held user at → IsAddedTo setup S draft added → IsSoundState setup S → IsMoment at.0 → IsPrepared setup S added None None bytes
-IsPrepared-again setup S held user at draft added bytes is to sound moment = record {
+again_after : (setup : Setup) (S : State) (event : Event) (held : List AccountView) (user : UserId) (at : Moment) (draft : DraftView) (added : AddedView) (file : RequestFile) (bytes reply : List ℕ) → event ≡ File user file → draft ≡ started setup S held user at → IsAddedTo setup S draft added → kept_for S user file.newer ≡ Some reply → prepared_after S added None None bytes ≡ state_after setup S at event
+again_after setup S event held user at draft added file bytes reply is_file is to kept =
+    let outcome : step setup S at event ≡ record { reply = reply; after = raised S at } = ap (step setup S at) is_file ∙ again_outcome setup S user at file reply kept in
+    to.state ∙ ap drafted is ∙ drafted-started setup S held user at ∙ sym (ap (λ (o : Outcome). o.after) outcome)
+
+pub IsPrepared-again : (setup : Setup) (S : State) (event : Event) (held : List AccountView) (user : UserId) (at : Moment) (draft : DraftView) (added : AddedView) (file : RequestFile) (bytes reply : List ℕ) → event ≡ File user file → draft ≡ started setup S held user at → IsAddedTo setup S draft added → kept_for S user file.newer ≡ Some reply → IsSoundState setup S → IsMoment at.0 → IsPrepared setup S event added None None bytes
+IsPrepared-again setup S event held user at draft added file bytes reply is_file is to kept sound moment = record {
   rows = to.rows;
   balances = to.balances;
+  step = (at, again_after setup S event held user at draft added file bytes reply is_file is to kept);
   sound = subst (IsSoundState setup) (sym (to.state ∙ ap drafted is ∙ drafted-started setup S held user at)) (IsSoundState-raised setup S at sound moment);
   absent = tt;
 }
@@ -88,7 +94,7 @@ pub again_is : (setup : Setup) (S : State) (event : Event) (held : List AccountV
 again_is setup S event held user at draft added file bytes reply reported is_file is to kept same =
     let outcome : step setup S at event ≡ record { reply = reply; after = raised S at } = ap (step setup S at) is_file ∙ again_outcome setup S user at file reply kept in
     same_prepared setup S event _ _ reported _
-    (to.state ∙ ap drafted is ∙ drafted-started setup S held user at ∙ sym (ap (λ (o : Outcome). o.after) outcome))
+    (again_after setup S event held user at draft added file bytes reply is_file is to kept)
     (same ∙ sym (ap (λ (o : Outcome). o.reply) outcome))
 
 -- ---- a file that is answered anew
@@ -132,13 +138,22 @@ absent_named S user other older None same absent = tt
 absent_named S user other older (Some file) same absent =
     subst (λ (u : UserId). reply_kept u file (release u older S.kept) ≡ None) (sym same) (absent-release user user file older S.kept absent)
 
-pub IsPrepared-anew : (setup : Setup) (S : State) (event : Event) (user : UserId) (at : Moment) (file : RequestFile) (added : AddedView) (reply copy : List ℕ) → event ≡ File user file → IsWithinLimits setup → IsSoundState setup S → IsMoment at.0 → IsLegal setup S at event → kept_for S user file.newer ≡ None → IsAnswered setup S user at file added reply copy → IsPrepared setup S added file.older file.newer copy
+pub IsPrepared-anew : (setup : Setup) (S : State) (event : Event) (user : UserId) (at : Moment) (file : RequestFile) (added : AddedView) (reply copy : List ℕ) → event ≡ File user file → IsWithinLimits setup → IsSoundState setup S → IsMoment at.0 → IsLegal setup S at event → kept_for S user file.newer ≡ None → IsAnswered setup S user at file added reply copy → IsPrepared setup S event added file.older file.newer copy
 IsPrepared-anew setup S event user at file added reply copy is_file within sound moment legal absent answered = record {
   rows = answered.rows;
   balances = answered.balances;
+  step = (at, anew_after setup S user at file added reply copy absent answered ∙ sym (ap (state_after setup S at) is_file));
   sound = subst (IsSoundState setup) (sym (anew_after setup S user at file added reply copy absent answered)) (IsSoundState-step setup S at (File user file) within sound moment (subst (IsLegal setup S at) is_file legal));
   absent = absent_named S user added.user file.older file.newer answered.asked_by absent;
 }
+
+-- ---- a file without a name, whose reply is kept nowhere
+
+pub no_copy : (newer : Option (List ℕ)) (reply copy : List ℕ) → newer ≡ None → is_some newer ≡ true → copy ≡ reply
+no_copy newer reply copy unnamed some = absurd (true≢false (sym some ∙ ap is_some unnamed))
+
+pub absent_unnamed : (S : State) (user : UserId) (newer : Option (List ℕ)) → newer ≡ None → kept_for S user newer ≡ None
+absent_unnamed S user newer unnamed = ap (kept_for S user) unnamed
 
 -- ---- the asks of a file that is answered anew
 
@@ -190,7 +205,7 @@ HasRoom-added room before after entries count uids are counted used in_entries i
 
 -- What is prepared of such an event, and that it is the event's.
 pub record IsUnasked (setup : Setup) (S : State) (event : Event) (at : Moment) (added : AddedView) (kept reported : List ℕ) : Type 0 where
-  pub prepared : IsPrepared setup S added None None kept
+  pub prepared : IsPrepared setup S event added None None kept
   pub is : prepared_with setup S event (prepared_after S added None None kept) reported ≡ prepared_with setup S event (state_after setup S at event) (answer_to setup S at event)
 
 unasked_of : (setup : Setup) (S : State) (event : Event) (held : List AccountView) (user : UserId) (at : Moment) (draft more : DraftView) (added : AddedView) (entries : List Entry) (kept reported : List ℕ) → draft ≡ started setup S held user at → step setup S at event ≡ unasked (raised S at) entries → HasAdded draft more entries → IsAddedBy more added → reported ≡ [] → IsWithinLimits setup → IsSoundState setup S → IsMoment at.0 → IsLegal setup S at event → IsUnasked setup S event at added kept reported
@@ -202,6 +217,7 @@ unasked_of setup S event held user at draft more added entries kept reported is 
       prepared = record {
         rows = to.rows;
         balances = to.balances;
+        step = (at, after ∙ sym (ap (λ (o : Outcome). o.after) does));
         sound = subst (IsSoundState setup) (sym after) (subst (IsSoundState setup) (ap (λ (o : Outcome). o.after) does) (IsSoundState-step setup S at event within sound moment legal));
         absent = tt;
       };

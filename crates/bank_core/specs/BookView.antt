@@ -3,6 +3,7 @@ use Rattle.std.specs.Prelude.{ℕ, ◌+◌, ◌<◌, ◌≤◌, List, length}
 use Rattle.bank_model.specs.declared.setup.Setup.{Setup}
 use Rattle.bank_model.specs.declared.event.State.{State}
 use Rattle.bank_model.specs.declared.event.Event.{Event}
+use Rattle.bank_accounts.specs.AccountView.{Tables}
 use Rattle.bank_ledger.specs.LedgerView.{Room}
 
 -- A book is of a setup, and is in a state.
@@ -10,10 +11,11 @@ pub record BookView : Type 0 where
   pub setup : Setup
   pub state : State
 
--- A book with the room that is reserved in it.
+-- A book with the table of each account, by its number, and with the room that is reserved in it.
 pub record ReservedBook : Type 0 where
   pub setup : Setup
   pub state : State
+  pub tables : Tables
   pub room : Room
 
 -- What an event does in a state of a bank of a setup: the state that it leaves, and what it answers.

@@ -1,3 +1,4 @@
 pub mod BookView
+pub mod BookSides
 pub mod Preparing
 pub mod Opened

@@ -7,6 +7,7 @@ ghost use Rattle.bank_model.specs.Sound.{IsSoundAsk};
 ghost use Rattle.bank_accounts.specs.HeldAccounts.{AreHeld};
 ghost use Rattle.bank_ledger.specs.DraftView.{drafted, IsSameFile};
 
+use crate::reply_bound::ReplyBound;
 use crate::sync::sync;
 use bank_deeds::answer_deed;
 use bank_ledger::Draft;
@@ -14,11 +15,12 @@ use bank_queries::statement_of;
 use ofx_types::{Ask, AskReplies, AskReply, OutOfMemory, Sequence};
 use std::alloc::Global;
 
-/// Answers asks in their order, and adds what they do.
+/// Answers asks in their order, and adds what they do. Refused where the answers are longer than the bound.
 pub(crate) fn answer_asks(
     draft: &mut Draft<'_>,
     alloc: Global,
     asks: &[Ask],
+    bound: ReplyBound,
 ) -> Result<AskReplies, OutOfMemory>
     requires known { draft.old.user.0 < length draft.old.setup.users }
     requires asks { AllByRecursion IsSoundAsk asks.now }
@@ -30,8 +32,10 @@ pub(crate) fn answer_asks(
     ensures file { OnOk result (IsSameFile draft.old draft.new) }
 {
     let mut replies = Vec::with_capacity(alloc, asks.len())?;
+    let mut left = bound;
     for ask in asks {
         let reply = answer_ask(draft, alloc, ask)?;
+        left = left.after(&reply)?;
         replies.push(reply)?;
     }
     Ok(Sequence::from_vec(replies))

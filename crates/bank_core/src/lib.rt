@@ -9,6 +9,7 @@ mod book;
 mod failed_signon;
 mod opening;
 mod prepared;
+mod reply_bound;
 mod sync;
 
 pub use book::Book;

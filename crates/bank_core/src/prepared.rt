@@ -1,13 +1,18 @@
 //! An event that is answered, before the book takes its step.
 
 ghost use Rattle.std.specs.Prelude.{◌≡◌, ◌+◌, ◌++◌, [], length};
-ghost use Rattle.bank_accounts.specs.HeldAccounts.{HaveSameNumbers};
+ghost use Rattle.bank_model.specs.Rules.{named};
+ghost use Rattle.bank_model.specs.SetupForm.{IsWithinLimits};
+ghost use Rattle.bank_accounts.specs.HeldAccounts.{AreHeld, HaveSameNumbers};
+ghost use Rattle.bank_accounts.specs.Sides.{tables_in, AreOf};
 ghost use Rattle.bank_invariants.specs.SoundStates.{IsSoundState};
 ghost use Rattle.bank_ledger.specs.Balanced.{AreBalanced};
+ghost use Rattle.bank_core.specs.BookSides.{AreSidesOf};
 ghost use Rattle.bank_core.specs.BookView.{HasRoom};
 ghost use Rattle.bank_core.specs.Preparing.{prepared_after, IsPrepared};
 
-use bank_accounts::Held;
+use bank_accounts::{BookSides, Held};
+use bank_invariants::laws::money::unnamed_accounts_stay;
 use bank_ledger::{Additions, Ledger};
 use bank_model::{Entry, Event, Setup};
 use ofx_types::FileUid;
@@ -50,7 +55,7 @@ impl Model for Prepared {
       reply = p.reported.items;
     } };
 
-    ghost invariant = { λ p. IsPrepared p.setup.value p.before.value.state p.added p.older p.newer p.kept.items };
+    ghost invariant = { λ p. IsPrepared p.setup.value p.before.value.state p.event.value p.added p.older p.newer p.kept.items };
 }
 
 impl Drop for Prepared {
@@ -92,7 +97,7 @@ impl Prepared {
         newer: Option<FileUid>,
         reply: ReplyBytes,
     ) -> Prepared
-        requires { IsPrepared setup.now before.now.state added older newer reply.kept.items }
+        requires { IsPrepared setup.now before.now.state event.now added older newer reply.kept.items }
         ensures { result ≡ record {
           setup = setup.now;
           before = before.now.state;
@@ -134,20 +139,33 @@ impl Prepared {
         self.added.uid_count()
     }
 
-    /// Takes the step: the ledger takes in what is added, and the accounts have their new balances. Gives the bytes
-    /// of the reply. Takes no memory.
-    pub(crate) fn apply_step(self, ledger: &mut Ledger, held: &mut Held) -> Vec<u8>
+    /// Takes the step: the ledger takes in what is added, and the accounts have their new balances, at both of their
+    /// sides. Gives the bytes of the reply. Takes no memory.
+    pub(crate) fn apply_step(
+        self,
+        ledger: &mut Ledger,
+        sides: &mut BookSides,
+        held: &mut Held,
+    ) -> Vec<u8>
+        requires within { IsWithinLimits self.setup }
         requires made { self.before ≡ ledger.old.state }
         requires room { HasRoom ledger.old.room self.before self.after }
-        requires balanced { AreBalanced self.setup self.before held.old }
+        requires sides { AreSidesOf self.setup self.before sides.old }
+        requires named { AreHeld held.old (named self.setup self.before self.event) }
+        requires own { AreOf (tables_in sides.old) held.old }
         ensures window { ledger.new.window ≡ ledger.old.window }
         ensures state { ledger.new.state ≡ self.after }
         ensures sound { IsSoundState self.setup self.after }
+        ensures sides { AreSidesOf self.setup self.after sides.new }
+        ensures tables { tables_in sides.new ≡ tables_in sides.old }
         ensures numbers { HaveSameNumbers held.new held.old }
+        ensures own { AreOf (tables_in sides.new) held.new }
         ensures balanced { AreBalanced self.setup self.after held.new }
         ensures reply { result.items ≡ self.reply }
     {
-        held.set_balances(self.added.balances());
+        unnamed_accounts_stay();
+        sides.meet(held);
+        sides.set_balances(held, self.added.balances());
         let user = self.added.user();
         let Prepared {
             setup: _,

@@ -1,14 +1,12 @@
--- A run of due work so far, one look more, and each of its ends.
-use Rattle.std.proofs.Common.{◌≡◌, ℕ, ◌+◌, ◌<◌, List, [], ◌∷◌, ◌++◌, length, Ok, Err, refl, ◌∙◌, subst, arith, length-append}
+-- A run of due work so far, one look more, and its end where it has as many events as it may have.
+use Rattle.std.proofs.Common.{◌≡◌, ℕ, ◌+◌, ◌<◌, List, [], ◌∷◌, ◌++◌, length, Err, refl, ◌∙◌, subst, arith, length-append}
 use Rattle.ofx_types.specs.declared.number.Moment.{Moment}
 use Rattle.bank_model.specs.DueRun.{run_length}
 use Rattle.bank_model.specs.declared.event.Event.{Event}
 use Rattle.bank_model.specs.declared.setup.Setup.{Setup}
-use Rattle.bank_model.specs.declared.submit.SubmitFault.{SubmitFault}
-use Rattle.bank_model.specs.declared.submit.SubmitFault.TheVariants as refused
 use Rattle.bank_callers.specs.Callers.{CallerView}
-use Rattle.bank_shared.specs.Advancing.{HasDone, HasGone, HasNothing, IsUnadvanced}
-use Rattle.bank_due.specs.DueRuns.{Loses, DoesEach, id_in, fault_of, RunsDue}
+use Rattle.bank_shared.specs.Advancing.{HasDone, HasGone}
+use Rattle.bank_due.specs.DueRuns.{Loses, DoesEach, id_in, RunsDue}
 use Rattle.bank_due.specs.declared.fault.DueFault.TheVariants as faults
 
 -- so many events have happened, and since then some that were due have gone
@@ -59,19 +57,6 @@ gone setup at n event u v w so went = record {
   loses = loses-more setup at so.done v w so.gone event so.loses went;
 }
 
--- nothing is due any more
-pub all : (setup : Setup) (at : Moment) (n : ℕ) (u v w : CallerView) → SoFar setup at n u v → HasNothing setup at v w → RunsDue setup at u w (Ok n)
-all setup at n u v w so none = record {
-  events = so.events;
-  gone = so.gone;
-  done = so.done;
-  look = v;
-  counted = so.counted;
-  does = so.does;
-  loses = so.loses;
-  nothing = none;
-}
-
 -- the last event that a run may have
 pub left : (setup : Setup) (at : Moment) (n : ℕ) (event : Event) (u v w : CallerView) → n + 1 ≡ 100000 → SoFar setup at n u v → HasDone setup at event v w
     → RunsDue setup at u w (Err (faults.Left (id_in event)))
@@ -82,29 +67,4 @@ left setup at n event u v w last so due = record {
   counted = one_more so.events event n so.counted ∙ last;
   does = each-more setup at u so.done v w so.events so.gone event so.does so.loses due;
   id_is = refl;
-}
-
--- a look that fails
-pub fails : (setup : Setup) (at : Moment) (n : ℕ) (fault : SubmitFault) (u v w : CallerView) → n < 100000 → SoFar setup at n u v → IsUnadvanced setup at v w fault
-    → RunsDue setup at u w (Err (fault_of fault))
-unfolding run_length
-fails setup at n (refused.Keeper count) u v w few so breaks = record {
-  events = so.events;
-  gone = so.gone;
-  done = so.done;
-  look = v;
-  few = omega (arith, so.counted, few);
-  does = so.does;
-  loses = so.loses;
-  fails = breaks;
-}
-fails setup at n refused.OutOfMemory u v w few so breaks = record {
-  events = so.events;
-  gone = so.gone;
-  done = so.done;
-  look = v;
-  few = omega (arith, so.counted, few);
-  does = so.does;
-  loses = so.loses;
-  fails = breaks;
 }

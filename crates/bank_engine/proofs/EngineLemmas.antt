@@ -9,19 +9,38 @@ use Rattle.bank_model.specs.declared.event.Event.{Event}
 use Rattle.bank_model.specs.declared.event.State.{State}
 use Rattle.bank_model.specs.declared.setup.Setup.{Setup}
 use Rattle.bank_model.specs.Rules.{IsLegal, answer_to, named, state_after}
-use Rattle.bank_accounts.specs.AccountView.{AccountView}
+use Rattle.bank_accounts.specs.AccountView.{AccountView, Tables}
 use Rattle.bank_accounts.specs.HeldAccounts.{AreHeld}
 use Rattle.bank_core.specs.BookView.{PreparedView, ReservedBook, HasRoom}
 use Rattle.bank_ledger.specs.LedgerView.{Room}
 use Rattle.bank_engine.specs.declared.pending.Pending.{Pending}
 use Rattle.bank_engine.specs.Pending.{pending_of, IsReadyStill}
 use Rattle.bank_engine.specs.Steps.{IsReady, Expects}
-use Rattle.bank_engine.specs.Views.{PendingView}
+use Rattle.bank_engine.specs.Views.{EngineView, PendingView}
+
+abbrev pub engine_of : ReservedBook → Option PendingView → EngineView
+engine_of book pending = record { setup = book.setup; state = book.state; room = book.room; tables = book.tables; pending = pending }
 
 -- nothing is pending
 pub idle : (book : ReservedBook) (pending : Option Pending) → option_map pending_of pending ≡ None → IfSome pending (IsReadyStill book)
 idle book None is = tt
 idle book (Some pending) is = absurd (let none : Some (pending_of pending) ≡ None = is in cc)
+
+-- what is pending is ready still, where the book is as before
+pub ready_same : (book book' : ReservedBook) (pending : Option Pending) → book'.setup ≡ book.setup → book'.state ≡ book.state → book'.room ≡ book.room → IfSome pending (IsReadyStill book) → IfSome pending (IsReadyStill book')
+ready_same book book' None own same room ready = tt
+ready_same book book' (Some pending) own same room ready =
+    subst (λ (s : Setup). IsReady s book'.state book'.room pending.at pending.event pending.prepared) (sym own)
+    (subst (λ (S : State). IsReady book.setup S book'.room pending.at pending.event pending.prepared) (sym same)
+    (subst (λ (r : Room). IsReady book.setup book.state r pending.at pending.event pending.prepared) (sym room) ready))
+
+-- an engine whose book is as before is as before
+pub view_same : (book book' : ReservedBook) (pending : Option PendingView) → book'.setup ≡ book.setup → book'.state ≡ book.state → book'.tables ≡ book.tables → book'.room ≡ book.room → engine_of book' pending ≡ engine_of book pending
+view_same book book' pending own same tables room =
+    ap (λ (s : Setup). engine_of (record book' { setup = s }) pending) own
+    ∙ ap (λ (S : State). engine_of (record book' { setup = book.setup; state = S }) pending) same
+    ∙ ap (λ (ts : Tables). engine_of (record { setup = book.setup; state = book.state; tables = ts; room = book'.room }) pending) tables
+    ∙ ap (λ (r : Room). engine_of (record { setup = book.setup; state = book.state; tables = book.tables; room = r }) pending) room
 
 -- the accounts that the pending event names
 pub names_held : (setup : Setup) (state : State) (held : List AccountView) (pending : Option Pending) (here : Pending) → pending ≡ Some here → IfSome (option_map pending_of pending) (λ (p : PendingView). AreHeld held (named setup state p.event)) → AreHeld held (named setup state here.event)

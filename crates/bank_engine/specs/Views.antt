@@ -5,6 +5,7 @@ use Rattle.bank_model.specs.declared.event.Event.{Event}
 use Rattle.bank_model.specs.declared.event.State.{State}
 use Rattle.bank_model.specs.declared.log.LogItem.{LogItem}
 use Rattle.bank_model.specs.declared.setup.Setup.{Setup}
+use Rattle.bank_accounts.specs.AccountView.{Tables}
 use Rattle.bank_core.specs.BookView.{PreparedView}
 use Rattle.bank_ledger.specs.LedgerView.{Room}
 
@@ -15,11 +16,12 @@ pub record PendingView : Type 0 where
   -- the number of its fault among the endings of the log, modulo 2^64
   pub number : ℕ
 
--- What an engine is alone: its book with the room that is reserved in it, and what is pending.
+-- What an engine is alone: its book with the room that is reserved in it and the table of each account, and what is pending.
 pub record EngineView : Type 0 where
   pub setup : Setup
   pub state : State
   pub room : Room
+  pub tables : Tables
   pub pending : Option PendingView
 
 -- An event that is ready: its record, and the step that the book will take.
@@ -45,6 +47,8 @@ pub record JournalView : Type 0 where
   pub setup : Setup
   -- the state that the log ends in
   pub state : State
+  -- the table of each account, by the account's number
+  pub tables : Tables
   -- what the bank's callers were answered, and what its keeper refused
   pub log : List LogItem
   pub pending : Option PendingView
@@ -58,6 +62,7 @@ abbrev pub journal_of : EngineView → KeeperView → List LogItem → JournalVi
 journal_of engine keeper log = record {
   setup = engine.setup;
   state = engine.state;
+  tables = engine.tables;
   log = log;
   pending = engine.pending;
   records = keeper.records;

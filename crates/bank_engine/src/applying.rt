@@ -6,6 +6,7 @@ ghost use Rattle.bank_model.specs.declared.log.LogItem.TheVariants.{Answer, Adop
 ghost use Rattle.bank_model.specs.LegalLog.{group};
 ghost use Rattle.bank_model.specs.Rules.{named, state_after, answer_to};
 ghost use Rattle.bank_accounts.specs.HeldAccounts.{AreHeld, HaveSameNumbers};
+ghost use Rattle.bank_accounts.specs.Sides.{AreOf};
 ghost use Rattle.bank_ledger.specs.Balanced.{AreBalanced};
 ghost use Rattle.bank_engine.specs.Steps.{IsReady, Expects};
 
@@ -26,11 +27,13 @@ pub(crate) fn answer<L: Publisher, P: Printer>(
 ) -> Vec<u8>
     requires ready { IsReady book.old.setup book.old.state book.old.room ready.at ready.event ready.prepared }
     requires named { AreHeld held.old (named book.old.setup book.old.state ready.event) }
-    requires balanced { AreBalanced book.old.setup book.old.state held.old }
+    requires own { AreOf book.old.tables held.old }
     requires expected { Expects (L.expects log.old) book.old.setup book.old.state ready.at ready.event }
     ensures setup { book.new.setup ≡ book.old.setup }
     ensures state { book.new.state ≡ state_after book.old.setup book.old.state ready.at ready.event }
+    ensures tables { book.new.tables ≡ book.old.tables }
     ensures numbers { HaveSameNumbers held.new held.old }
+    ensures own { AreOf book.new.tables held.new }
     ensures balanced { AreBalanced book.new.setup book.new.state held.new }
     ensures log { L.log log.new ≡ L.log log.old ++ group book.old.setup book.old.state (Answer ready.event ready.at result.items) }
     ensures through { L.through log.new ≡ L.through log.old }
@@ -54,11 +57,13 @@ pub(crate) fn adopt<L: Publisher, P: Printer>(
 )
     requires ready { IsReady book.old.setup book.old.state book.old.room pending.at pending.event pending.prepared }
     requires named { AreHeld held.old (named book.old.setup book.old.state pending.event) }
-    requires balanced { AreBalanced book.old.setup book.old.state held.old }
+    requires own { AreOf book.old.tables held.old }
     requires expected { Expects (L.expects log.old) book.old.setup book.old.state pending.at pending.event }
     ensures setup { book.new.setup ≡ book.old.setup }
     ensures state { book.new.state ≡ state_after book.old.setup book.old.state pending.at pending.event }
+    ensures tables { book.new.tables ≡ book.old.tables }
     ensures numbers { HaveSameNumbers held.new held.old }
+    ensures own { AreOf book.new.tables held.new }
     ensures balanced { AreBalanced book.new.setup book.new.state held.new }
     ensures log { L.log log.new ≡ L.log log.old ++ group book.old.setup book.old.state (Adopted pending.number pending.event pending.at) }
     ensures through { L.through log.new ≡ L.through log.old }

@@ -4,7 +4,6 @@ ghost use Rattle.std.specs.Prelude.{◌≡◌, [], OnOk, OnErr};
 ghost use Rattle.bank_model.specs.Rules.{named};
 ghost use Rattle.bank_accounts.specs.Pool.{AreCheckedOut};
 ghost use Rattle.bank_accounts.specs.HeldAccounts.{AreHeld, AreNamed};
-ghost use Rattle.bank_solo.specs.Solo.{accounts_in};
 
 use bank_accounts::{AccountPool, Held};
 use bank_core::Book;
@@ -20,12 +19,11 @@ pub fn check_out<P: Printer>(
     held: &mut Held,
     event: &Event,
 ) -> Result<(), OutOfMemory>
-    requires pool { pool.old ≡ accounts_in book.now.setup book.now.state }
+    requires pool { AreCheckedOut book.now.tables pool.old held.old }
     requires none_held { held.old ≡ [] }
-    ensures checked_out { OnOk result (AreCheckedOut (accounts_in book.now.setup book.now.state) pool.new held.new) }
+    ensures pool { AreCheckedOut book.now.tables pool.new held.new }
     ensures named { OnOk result (AreHeld held.new (named book.now.setup book.now.state event.now)) }
     ensures only { OnOk result (AreNamed held.new (named book.now.setup book.now.state event.now)) }
-    ensures refused { OnErr result (pool.new ≡ pool.old) }
     ensures none_lent { OnErr result (held.new ≡ []) }
 {
     let numbers = book.named(alloc, event)?;

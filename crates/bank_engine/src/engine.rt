@@ -9,6 +9,7 @@ ghost use Rattle.bank_model.specs.LegalLog.{MayHappen};
 ghost use Rattle.bank_model.specs.Rules.{IsLegal, named};
 ghost use Rattle.bank_model.specs.SetupForm.{IsWithinLimits};
 ghost use Rattle.bank_accounts.specs.HeldAccounts.{AreHeld, HaveSameNumbers};
+ghost use Rattle.bank_accounts.specs.Sides.{AreOf};
 ghost use Rattle.bank_ledger.specs.Balanced.{AreBalanced};
 ghost use Rattle.bank_invariants.specs.SoundStates.{IsSoundState};
 ghost use Rattle.bank_engine.specs.Calls.{Answers, FailsToCommit, Settles, FailsToSettle, append_of, settling_of};
@@ -50,6 +51,7 @@ impl<P: Printer> Model for Engine<P> {
       setup = e.book.setup;
       state = e.book.state;
       room = e.book.room;
+      tables = e.book.tables;
       pending = option_map pending_of e.pending;
     } };
 
@@ -59,7 +61,7 @@ impl<P: Printer> Model for Engine<P> {
 impl<P: Printer> Engine<P> {
     /// The engine of a bank with this book. Takes no memory.
     pub fn new(book: Book<P>) -> Engine<P>
-        ensures { result ≡ record { setup = book.setup; state = book.state; room = book.room; pending = None } }
+        ensures { result ≡ record { setup = book.setup; state = book.state; room = book.room; tables = book.tables; pending = None } }
     {
         Engine {
             book,
@@ -71,6 +73,7 @@ impl<P: Printer> Engine<P> {
     pub fn book(&self) -> &Book<P>
         ensures setup { result.now.setup ≡ self.now.setup }
         ensures state { result.now.state ≡ self.now.state }
+        ensures tables { result.now.tables ≡ self.now.tables }
         ensures within { IsWithinLimits self.now.setup }
         ensures sound { IsSoundState self.now.setup self.now.state }
     {
@@ -90,6 +93,18 @@ impl<P: Printer> Engine<P> {
         }
     }
 
+    /// Shows that each account that is held has the balance of the state. Takes no memory.
+    ///
+    /// Each of the accounts is of this bank.
+    pub fn meet(&mut self, held: &mut Held)
+        requires { AreOf self.old.tables held.old }
+        ensures same { self.new ≡ self.old }
+        ensures accounts { held.new ≡ held.old }
+        ensures balanced { AreBalanced self.old.setup self.old.state held.old }
+    {
+        self.book.meet(held);
+    }
+
     /// Makes an event ready that may happen at that moment. The accounts that it names are held, and nothing is pending. All memory
     /// of its commit is taken here; the book stays as it is, but for the room in it.
     pub fn prepare(
@@ -103,17 +118,19 @@ impl<P: Printer> Engine<P> {
         requires legal { IsLegal self.old.setup self.old.state at event }
         requires settled { self.old.pending ≡ None }
         requires named { AreHeld held.old (named self.old.setup self.old.state event) }
-        requires balanced { AreBalanced self.old.setup self.old.state held.old }
+        requires own { AreOf self.old.tables held.old }
         ensures setup { self.new.setup ≡ self.old.setup }
         ensures state { self.new.state ≡ self.old.state }
+        ensures tables { self.new.tables ≡ self.old.tables }
         ensures pending { self.new.pending ≡ None }
         ensures accounts { held.new ≡ held.old }
+        ensures balanced { AreBalanced self.new.setup self.new.state held.new }
         ensures ready { IfOk result (λ ready. IsReady self.new.setup self.new.state self.new.room at event ready.prepared) }
         ensures event { IfOk result (λ ready. ready.event ≡ event) }
         ensures at { IfOk result (λ ready. ready.at ≡ at) }
     {
-        let rec = record_of(alloc, &self.book, &event, at)?;
         let prepared = self.book.answer(alloc, held, &event, at)?;
+        let rec = record_of(alloc, &self.book, &event, at)?;
         // For the proof alone: its contract says that entries are added to those before.
         let _added = prepared.entries();
         Ok(Ready {
@@ -140,6 +157,7 @@ impl<P: Printer> Engine<P> {
         requires settled { self.old.pending ≡ None }
         requires unsettled { K.unsettled keeper.old ≡ false }
         requires named { AreHeld held.old (named self.old.setup self.old.state ready.event) }
+        requires own { AreOf self.old.tables held.old }
         requires balanced { AreBalanced self.old.setup self.old.state held.old }
         requires expected { Expects (L.expects log.old) self.old.setup self.old.state ready.at ready.event }
         requires free { L.expects log.old [] }
@@ -156,7 +174,9 @@ impl<P: Printer> Engine<P> {
         ensures since { (before : List LogItem) → L.since log.old before → L.since log.new before }
         ensures size { K.size keeper.new ≡ counted (K.size keeper.old) (is_ok result) }
         ensures appends { K.appends keeper.old keeper.new ready.rec (append_of result) }
+        ensures tables { self.new.tables ≡ self.old.tables }
         ensures numbers { HaveSameNumbers held.new held.old }
+        ensures own { AreOf self.new.tables held.new }
         ensures balanced { AreBalanced self.new.setup self.new.state held.new }
         ensures accounts { OnErr result (held.new ≡ held.old) }
     {
@@ -190,7 +210,7 @@ impl<P: Printer> Engine<P> {
         requires settled { self.old.pending ≡ None }
         requires unsettled { K.unsettled keeper.old ≡ false }
         requires named { AreHeld held.old (named self.old.setup self.old.state event) }
-        requires balanced { AreBalanced self.old.setup self.old.state held.old }
+        requires own { AreOf self.old.tables held.old }
         requires expected { Expects (L.expects log.old) self.old.setup self.old.state at event }
         requires free { L.expects log.old [] }
         ensures sends { IfOk result (λ line. Sends (E.sent envelope)
@@ -203,7 +223,9 @@ impl<P: Printer> Engine<P> {
             event at) }
         ensures size { K.size keeper.new ≡ counted (K.size keeper.old) (is_ok result) }
         ensures appends { AppendsOne K.appends keeper.old keeper.new at event result }
+        ensures tables { self.new.tables ≡ self.old.tables }
         ensures numbers { HaveSameNumbers held.new held.old }
+        ensures own { AreOf self.new.tables held.new }
         ensures balanced { AreBalanced self.new.setup self.new.state held.new }
         ensures accounts { OnErr result (held.new ≡ held.old) }
     {
@@ -225,7 +247,7 @@ impl<P: Printer> Engine<P> {
     ) -> Result<bool, SubmitFault>
         requires unsettled { K.unsettled keeper.old ≡ is_some self.old.pending }
         requires named { IfSome self.old.pending (λ pending. AreHeld held.old (named self.old.setup self.old.state pending.event)) }
-        requires balanced { AreBalanced self.old.setup self.old.state held.old }
+        requires own { AreOf self.old.tables held.old }
         requires expected { IfSome self.old.pending (λ pending. Expects (L.expects log.old) self.old.setup self.old.state pending.at pending.event) }
         requires free { L.expects log.old [] }
         ensures settled { IfOk result (Settles
@@ -239,9 +261,13 @@ impl<P: Printer> Engine<P> {
         ensures since { (before : List LogItem) → L.since log.old before → L.since log.new before }
         ensures idle { self.old.pending ≡ None → keeper.new ≡ keeper.old }
         ensures settles { self.old.pending ≢ None → K.settles keeper.old keeper.new (settling_of result) }
+        ensures tables { self.new.tables ≡ self.old.tables }
+        ensures met { AreBalanced self.old.setup self.old.state held.old }
         ensures numbers { HaveSameNumbers held.new held.old }
+        ensures own { AreOf self.new.tables held.new }
         ensures balanced { AreBalanced self.new.setup self.new.state held.new }
     {
+        self.meet(held);
         let Some(pending) = self.pending.take() else {
             return Ok(false);
         };
@@ -268,6 +294,7 @@ impl<P: Printer> Engine<P> {
     pub fn give_up(&mut self)
         ensures setup { self.new.setup ≡ self.old.setup }
         ensures state { self.new.state ≡ self.old.state }
+        ensures tables { self.new.tables ≡ self.old.tables }
         ensures pending { self.new.pending ≡ None }
     {
         self.pending = None;
@@ -277,6 +304,7 @@ impl<P: Printer> Engine<P> {
     pub fn into_book(self) -> Book<P>
         ensures setup { result.setup ≡ self.setup }
         ensures state { result.state ≡ self.state }
+        ensures tables { result.tables ≡ self.tables }
     {
         let Engine { book, pending: _ } = self;
         book

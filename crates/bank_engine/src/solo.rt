@@ -7,7 +7,7 @@ ghost use Rattle.ofx_ports.specs.Kept.{counted};
 ghost use Rattle.bank_model.specs.Rules.{IsLegal};
 ghost use Rattle.bank_model.specs.SetupForm.{IsWithinLimits};
 ghost use Rattle.bank_invariants.specs.SoundStates.{IsSoundState};
-ghost use Rattle.bank_solo.specs.Solo.{AreAccountsIn};
+ghost use Rattle.bank_solo.specs.Solo.{AreAccountsIn, AreAccountsOf};
 ghost use Rattle.bank_engine.specs.Calls.{FailsToCommit, Settles, FailsToSettle, settling_of};
 ghost use Rattle.bank_engine.specs.Solo.{Sends, AppendsOne};
 ghost use Rattle.bank_engine.specs.Steps.{Expects};
@@ -19,7 +19,6 @@ use crate::envelope::Envelope;
 use crate::publisher::Publisher;
 use bank_accounts::{Account, AccountPool, Held};
 use bank_core::Book;
-use bank_invariants::laws::money::unnamed_accounts_stay;
 use bank_model::{Event, Printer, SubmitFault};
 use ofx_ports::Keeper;
 use ofx_types::{Moment, OutOfMemory};
@@ -66,13 +65,12 @@ impl<P: Printer> Model for SoloEngine<P> {
     ghost use Rattle.bank_accounts.specs.Pool.{AreCheckedOut};
     ghost use Rattle.bank_engine.specs.Solo.{AreLentFor};
     ghost use Rattle.bank_engine.specs.Views.{EngineView};
-    ghost use Rattle.bank_solo.specs.Solo.{accounts_in};
 
     ghost Value = { EngineView };
 
     ghost view = { λ e. e.engine };
 
-    ghost invariant = { λ e. AreCheckedOut (accounts_in e.engine.setup e.engine.state) e.pool e.held
+    ghost invariant = { λ e. AreCheckedOut e.engine.tables e.pool e.held
         × AreLentFor e.engine.setup e.engine.state e.held e.engine.pending };
 }
 
@@ -83,9 +81,10 @@ impl<P: Printer> SoloEngine<P> {
         book: Book<P>,
         accounts: Vec<Account>,
     ) -> Result<SoloEngine<P>, OutOfMemory>
-        requires { AreAccountsIn book.setup book.state accounts.items }
+        requires { AreAccountsOf book.tables accounts.items }
         ensures setup { IfOk result (λ engine. engine.setup ≡ book.setup) }
         ensures state { IfOk result (λ engine. engine.state ≡ book.state) }
+        ensures tables { IfOk result (λ engine. engine.tables ≡ book.tables) }
         ensures pending { IfOk result (λ engine. engine.pending ≡ None) }
     {
         let pool = AccountPool::from_vec(alloc, accounts)?;
@@ -100,6 +99,7 @@ impl<P: Printer> SoloEngine<P> {
     pub fn book(&self) -> &Book<P>
         ensures setup { result.now.setup ≡ self.now.setup }
         ensures state { result.now.state ≡ self.now.state }
+        ensures tables { result.now.tables ≡ self.now.tables }
         ensures within { IsWithinLimits self.now.setup }
         ensures sound { IsSoundState self.now.setup self.now.state }
     {
@@ -134,10 +134,10 @@ impl<P: Printer> SoloEngine<P> {
             (journal_of self.old (record { records = K.records keeper.old; landed = K.landed keeper.old; unsettled = K.unsettled keeper.old; faults = K.faults keeper.old }) (L.log log.old))
             (journal_of self.new (record { records = K.records keeper.new; landed = K.landed keeper.new; unsettled = K.unsettled keeper.new; faults = K.faults keeper.new }) (L.log log.new))
             event at) }
+        ensures tables { self.new.tables ≡ self.old.tables }
         ensures size { K.size keeper.new ≡ counted (K.size keeper.old) (is_ok result) }
         ensures appends { AppendsOne K.appends keeper.old keeper.new at event result }
     {
-        unnamed_accounts_stay();
         check_out(
             alloc,
             self.engine.book(),
@@ -173,12 +173,10 @@ impl<P: Printer> SoloEngine<P> {
         ensures fails { IfErr result (FailsToSettle
             (journal_of self.old (record { records = K.records keeper.old; landed = K.landed keeper.old; unsettled = K.unsettled keeper.old; faults = K.faults keeper.old }) (L.log log.old))
             (journal_of self.new (record { records = K.records keeper.new; landed = K.landed keeper.new; unsettled = K.unsettled keeper.new; faults = K.faults keeper.new }) (L.log log.new))) }
+        ensures tables { self.new.tables ≡ self.old.tables }
         ensures idle { self.old.pending ≡ None → keeper.new ≡ keeper.old }
         ensures settles { self.old.pending ≢ None → K.settles keeper.old keeper.new (settling_of result) }
     {
-        unnamed_accounts_stay();
-        // For the proof alone: its contract says that the setup is within its limits.
-        let _book = self.engine.book();
         let adopted = self.engine.settle(keeper, log, &mut self.held)?;
         self.pool.check_in(&mut self.held);
         Ok(adopted)
@@ -189,17 +187,19 @@ impl<P: Printer> SoloEngine<P> {
     pub fn give_up(&mut self)
         ensures setup { self.new.setup ≡ self.old.setup }
         ensures state { self.new.state ≡ self.old.state }
+        ensures tables { self.new.tables ≡ self.old.tables }
         ensures pending { self.new.pending ≡ None }
     {
         self.engine.give_up();
         self.pool.check_in(&mut self.held);
     }
 
-    /// The book, and all accounts in the order of their numbers. What is pending is given up.
+    /// The book, and all accounts in the order of their numbers, each with its balance. What is pending is given up.
     pub fn into_parts(mut self, alloc: Global) -> Result<(Book<P>, Vec<Account>), OutOfMemory>
         ensures setup { IfOk result (λ parts. parts.0.setup ≡ self.setup) }
         ensures state { IfOk result (λ parts. parts.0.state ≡ self.state) }
         ensures accounts { IfOk result (λ parts. AreAccountsIn self.setup self.state parts.1.items) }
+        ensures own { IfOk result (λ parts. AreAccountsOf parts.0.tables parts.1.items) }
     {
         self.give_up();
         let SoloEngine {
@@ -207,8 +207,13 @@ impl<P: Printer> SoloEngine<P> {
             pool,
             held: _,
         } = self;
+        let mut book = engine.into_book();
+        // For the proof alone: its contract says that there is a table for each account of the setup.
+        let _setup = book.setup();
         let accounts = pool.into_vec(alloc)?;
-        Ok((engine.into_book(), accounts))
+        let mut all = Held::from_vec(accounts);
+        book.meet(&mut all);
+        Ok((book, all.into_vec()))
     }
 }
 

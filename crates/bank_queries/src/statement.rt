@@ -35,8 +35,8 @@ const FIRST_MOMENT: Moment = Moment(-2_208_988_800);
 /// let keys = RandomState::new(&rt).expect(&rt, "keys");
 /// let ledger = Ledger::new(alloc, keys, setup.window);
 /// let mut held = Held::new(alloc);
-/// held.add(Account::new(AcctId(0), Cents(500)))
-///     .expect(&rt, "room");
+/// let (account, _side) = Account::new(alloc, AcctId(0), Cents(500)).expect(&rt, "room");
+/// held.add(account).expect(&rt, "room");
 /// let (noon, today) = (Moment(1_706_702_400), Day(19_753));
 /// let draft = Draft::new(alloc, &setup, &ledger, &held, UserId(0), noon, today);
 /// let uid = TrnUid::new(b"t1").expect(&rt, "a uid");

@@ -7,7 +7,7 @@ ghost use Rattle.bank_model.specs.declared.event.State.{State};
 ghost use Rattle.bank_model.specs.Rules.{opening_state};
 ghost use Rattle.bank_model.specs.SetupForm.{IsWithinLimits};
 ghost use Rattle.event_codec.specs.Records.{Reopens};
-ghost use Rattle.bank_solo.specs.Solo.{AreAccountsIn};
+ghost use Rattle.bank_solo.specs.Solo.{AreAccountsIn, AreAccountsOf};
 ghost use Rattle.bank_replay.specs.Opening.{RecordsGive, HasNoForm, IsNotLegal, HasCause};
 ghost use Rattle.bank_replay.specs.Replay.{IsKept, IsNotTaken, IsOfTheOutside};
 
@@ -62,6 +62,7 @@ pub fn reopen<K: Keeper, P: Printer>(
     ensures setup { IfOk result (λ opened. opened.0.setup ≡ setup) }
     ensures holds { IfOk result (λ opened. RecordsGive setup (K.records keeper.old) opened.0.state) }
     ensures accounts { IfOk result (λ opened. AreAccountsIn setup opened.0.state opened.1.items) }
+    ensures own { IfOk result (λ opened. AreAccountsOf opened.0.tables opened.1.items) }
     ensures cause { IfErr result (HasCause setup (K.records keeper.old)) }
 
     // Where the records are known they decide the answer, unless a read fails or memory is refused.
@@ -96,6 +97,7 @@ fn replay_all<K: Keeper, P: Printer>(
     ensures setup { IfOk result (λ opened. opened.0.setup ≡ setup) }
     ensures holds { IfOk result (λ opened. RecordsGive setup (K.records keeper.old) opened.0.state) }
     ensures accounts { IfOk result (λ opened. AreAccountsIn setup opened.0.state opened.1.items) }
+    ensures own { IfOk result (λ opened. AreAccountsOf opened.0.tables opened.1.items) }
     ensures cause { IfErr result (HasCause setup (K.records keeper.old)) }
     ensures list { Stays (K.records keeper.old) (K.records keeper.new) }
     ensures settled { K.unsettled keeper.new ≡ false }

@@ -28,7 +28,7 @@ pub(crate) fn apply_record<P: Printer>(
     if !bank.book().legal(&event, at) {
         return Err(OpenFault::Illegal(number));
     }
-    let _reply = bank.step(alloc, &event, at)?;
+    bank.replay(alloc, &event, at)?;
     Ok(())
 }
 

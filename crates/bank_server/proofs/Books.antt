@@ -32,6 +32,7 @@ use Rattle.bank_shared.below.bank_history.specs.contracts.history.History.TheIns
 use Rattle.bank_shared.below.bank_transfers.proofs.transfers.Transfers.TheSendSync as transfers
 use Rattle.bank_shared.below.bank_recur.proofs.models.Models.TheSendSync as models
 use Rattle.bank_shared.below.once_records.proofs.records.Records.TheSendSync as records
+use Rattle.bank_shared.below.bank_accounts.proofs.book_sides.BookSides.TheSendSync as sides
 use Rattle.bank_shared.below.bank_ledger.specs.contracts.ledger.Ledger as ledger
 use Rattle.bank_shared.below.bank_ledger.specs.contracts.ledger.Ledger.TheInside as ledger_inside
 use Rattle.bank_shared.below.bank_core.specs.contracts.book.Book as book
@@ -78,4 +79,4 @@ ledger_send : IsSend ledger.the_row
 ledger_send = view_send _ _ _ _ _ (declared_send ledger_inside.the_type (history_send, (transfers.the_send, (models.the_send, (records.the_send, (day.the_send, tt))))))
 
 pub book_send : (P : RattleType) → IsSend P → IsSend (book.the_row P)
-book_send P sp = view_send _ _ _ _ _ (declared_send (book_inside.the_type P) (setup.the_send, (ledger_send, (as_row_send (row_field P) sp, tt))))
+book_send P sp = view_send _ _ _ _ _ (declared_send (book_inside.the_type P) (setup.the_send, (ledger_send, (sides.the_send, (as_row_send (row_field P) sp, (search (sendable, crosses), tt))))))

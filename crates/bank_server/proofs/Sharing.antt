@@ -14,7 +14,7 @@ use Rattle.ofx_types.proofs.number.Moment.TheSendSync as moment
 use Rattle.ofx_types.proofs.uid.FileUid.TheSendSync as uid
 use Rattle.bank_model.proofs.event.Event.TheSendSync as event
 use Rattle.bank_model.proofs.setup.Setup.TheSendSync as setup
-use Rattle.bank_shared.below.bank_accounts.proofs.pool.AccountPool.TheSendSync as pool
+use Rattle.bank_shared.below.bank_accounts.proofs.row.AccountRow.TheSendSync as row
 use Rattle.bank_shared.below.bank_ledger.proofs.additions.Additions.TheSendSync as additions
 use Rattle.bank_shared.below.bank_core.specs.contracts.prepared.Prepared as prepared
 use Rattle.bank_shared.below.bank_core.specs.contracts.prepared.Prepared.TheInside as prepared_inside
@@ -27,8 +27,6 @@ use Rattle.token_board.proofs.board.Board.TheSendSync as board
 use Rattle.token_board.proofs.writer.Writer.TheSendSync as writer
 use Rattle.bank_shared.specs.contracts.journal.Journal as journal
 use Rattle.bank_shared.specs.contracts.journal.Journal.TheInside as journal_inside
-use Rattle.bank_shared.specs.contracts.locked_bank.LockedBank as locked
-use Rattle.bank_shared.specs.contracts.locked_bank.LockedBank.TheInside as locked_inside
 use Rattle.bank_shared.specs.contracts.bank.Bank as bank
 use Rattle.bank_shared.specs.contracts.bank.Bank.TheInside as bank_inside
 use Rattle.bank_server.proofs.Books.{book_send}
@@ -62,16 +60,13 @@ module _ (N K P : RattleType) (n : named.Ghosts N.Denot) (k : kept.Ghosts K.Deno
       )
       )
 
-  locked_send : IsSend K → IsSend P → IsSend (locked.the_row N K P n k)
-  locked_send sk sp = view_send _ _ _ _ _ (declared_send (locked_inside.the_type N K P n k) (handle.the_send, (journal_send sk sp, (pool.the_send, tt))))
-
   pub bank_sync : IsSend K → IsSend P → IsSync P → IsSync (bank.the_row N K P n k)
   bank_sync sk sp shared =
-      let inside = locked_send sk sp in
+      let inside = journal_send sk sp in
       view_sync _ _ _ _ _ (
       declared_sync (bank_inside.the_type N K P n k) (
         handle.the_sync,
-        (setup.the_sync, (as_row_sync (row_field P) shared, (board.the_sync, (search (sendable, crosses, inside), tt)))),
+        (setup.the_sync, (as_row_sync (row_field P) shared, (board.the_sync, (row.the_sync, (search (sendable, crosses, inside), tt))))),
       )
       )
 

@@ -65,6 +65,7 @@ pub fn serve_all<
     requires opening { opened.state ≡ N.opening }
     requires first { opened.opened ≡ N.first }
     requires board { opened.board ≡ N.board }
+    requires tables { opened.tables ≡ N.tables }
     ensures count { IfOk result (λ all. length all.ends.items ≡ length workers.items) }
     ensures each { IfOk result (λ all. (i : ℕ) (worker : (D × C)) (worked : OneEnded D C) → slice_get workers.items i ≡ Some worker → slice_get all.ends.items i ≡ Some worked
         → IsPassOf N.setup N.opening N.board worked.pass × Works (faces L.left L.read_faults L.held L.write_faults) N.setup most

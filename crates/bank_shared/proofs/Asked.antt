@@ -1,5 +1,5 @@
 -- The asks of a poll, one after another.
-use Rattle.std.proofs.Common.{◌≡◌, ℕ, ◌<◌, ◌≤◌, ◌+◌, List, [], ◌∷◌, ◌++◌, length, map, take, get_or, All, Option, None, Some, Result, Ok, Err, IfOk, OnErr, refl, sym, ap, ◌∙◌, subst, append_assoc, append-nil, arith}
+use Rattle.std.proofs.Common.{◌≡◌, ℕ, ◌<◌, ◌≤◌, ◌+◌, List, [], ◌∷◌, ◌++◌, length, map, take, get_or, All, Option, Some, Result, Ok, Err, IfOk, OnErr, refl, sym, ap, ◌∙◌, subst, append_assoc, append-nil, arith}
 use Rattle.std.specs.Option.{option_map, option_to_list}
 use Rattle.std.proofs.lemmas.Grind.{flat_map-append}
 use Rattle.std.proofs.lemmas.List.{map-append, length-map, take_more, take_all}
@@ -16,7 +16,6 @@ use Rattle.bank_model.specs.declared.setup.Setup.{Setup}
 use Rattle.bank_model.specs.declared.event.State.{State}
 use Rattle.bank_model.specs.Log.{entries_in}
 use Rattle.bank_model.specs.Objects.{object_named}
-use Rattle.bank_model.specs.declared.log.LogItem.{LogItem}
 use Rattle.ofx_types.specs.declared.sync.ObjectName.{ObjectName}
 use Rattle.token_board.specs.declared.view.Load.{Load}
 use Rattle.token_board.specs.Steps.{load_of}
@@ -26,7 +25,7 @@ use Rattle.bank_callers.specs.Boards.{ObjectsAreCounted, TokensAreFresh}
 use Rattle.bank_callers.specs.Callers.{CallerView, IsFresh, IsLooked, HasPolled, HasLoaded, entries_seen}
 use Rattle.bank_callers.specs.Polled.{object_asked, loads_made, answer_with, answer_told, answers_reported, poll_reported}
 use Rattle.bank_shared.specs.Asking.{HasAsked}
-use Rattle.bank_shared.specs.Holds.{BeginsAt, IsPassOf, caller_of}
+use Rattle.bank_shared.specs.Holds.{BeginsAt, caller_of}
 
 abbrev object_of : Option Load → Option ObjectId
 object_of load = option_map (λ (l : Load). l.object) load
@@ -54,16 +53,6 @@ polled_twice loads more before mid after one two =
 
 -- ---- one token
 
--- no ask that names an object
-pub no_load : (opening : State) (pass : PassView) → HasPolled [] (caller_of opening pass) (caller_of opening pass)
-no_load opening pass = record {
-  opening = refl;
-  seen = refl;
-  mine = refl;
-  polled = sym (append-nil pass.polled);
-  fresh = All-nil (IsFresh (entries_in opening pass.seen));
-}
-
 -- a pass that has loaded one token more
 abbrev pub with_load : Load → PassView → PassView
 with_load load pass = record { table = pass.table; seen = pass.seen; mine = pass.mine; polled = pass.polled ++ load ∷ [] }
@@ -82,11 +71,6 @@ one_load setup opening board user name object token old new counted fresh begins
       polled = ap (λ (p : PassView). p.polled) is;
       fresh = All-cons (IsFresh (entries_in opening old.seen)) load [] one (All-nil (IsFresh (entries_in opening old.seen)));
     }
-
-pub still_pass : (setup : Setup) (opening : State) (board : BoardView) (load : Load) (old new : PassView) → new ≡ with_load load old → IsPassOf setup opening board old
-    → IsPassOf setup opening board new
-still_pass setup opening board load old new is of =
-    subst (IsPassOf setup opening board) (sym is) (record { own = of.own; legal = of.legal; mine = of.mine })
 
 -- ---- the asks so far
 

@@ -8,7 +8,7 @@ use Rattle.bank_model.specs.declared.event.State.{State}
 use Rattle.bank_model.specs.declared.log.LogItem.{LogItem}
 use Rattle.bank_model.specs.declared.log.LogItem.TheVariants.{Effect, Answer, Adopted, Fault}
 use Rattle.bank_model.specs.declared.setup.Setup.{Setup}
-use Rattle.bank_model.specs.LegalLog.{AreLegalEndings, IsWholeLog, after_ending, ends}
+use Rattle.bank_model.specs.LegalLog.{AreLegalEndings, after_ending, ends}
 use Rattle.bank_model.specs.Log.{endings}
 use Rattle.bank_model.specs.Rules.{IsLegal, opening_state, state_after}
 use Rattle.bank_model.specs.SetupForm.{IsWithinLimits}

@@ -1,4 +1,4 @@
--- What the calls of a locked bank do to what their caller knows.
+-- What a hold of the journal does to what its caller knows.
 use Rattle.std.proofs.Common.{◌≡◌, ℕ, inl, inr, List, [], ◌∷◌, ◌++◌, Bool, true, false, Option, None, Some, Result, Ok, Err, IfOk, IfErr, refl, sym, ap, ◌∙◌, subst, append_assoc, append-nil}
 use Rattle.std.specs.Option.{IfSome}
 use Rattle.ofx_types.specs.declared.number.UserId.{UserId}
@@ -13,18 +13,19 @@ use Rattle.bank_model.specs.declared.setup.Setup.{Setup}
 use Rattle.bank_model.specs.declared.submit.SubmitFault.{SubmitFault}
 use Rattle.bank_model.specs.declared.submit.SubmitFault.TheVariants.{Keeper, OutOfMemory}
 use Rattle.bank_model.specs.LegalLog.{effects_of, group, ends}
-use Rattle.bank_model.specs.Rules.{due}
+use Rattle.bank_model.specs.Events.{without_signon}
+use Rattle.bank_model.specs.Rules.{IsLegal, due}
 use Rattle.bank_engine.specs.Calls.{Answers, SettlesAny, FailsToCommit}
 use Rattle.bank_engine.specs.Views.{PendingView, JournalView}
 use Rattle.token_board.specs.Views.{BoardView, PassView}
 use Rattle.token_board.specs.Publishing.{Meets}
 use Rattle.bank_callers.specs.Boards.{TokensHold}
-use Rattle.bank_callers.specs.Callers.{GainsEnding, GainsNothing, IsOfFile, IsCommitted, IsFaulted, IsUncommitted}
-use Rattle.bank_shared.specs.Advancing.{IsAdvanced, IsUnadvanced, HasDone, HasFailed, state_at}
-use Rattle.bank_shared.specs.Calls.{IsSettled, LeavesPending, AnswersNext, FailsToSubmit, Advances, FailsToAdvance}
+use Rattle.bank_callers.specs.Callers.{CallerView, GainsNothing, IsOfFile, IsCommitted, IsUncommitted}
+use Rattle.bank_shared.specs.Advancing.{IsAdvanced, IsUnadvanced, state_at}
+use Rattle.bank_shared.specs.Calls.{IsSettled, LeavesPending}
 use Rattle.bank_shared.specs.Holds.{BeginsAt, MeetsOrStays, caller_of}
-use Rattle.bank_shared.specs.declared.advance.Advance.{Advance}
-use Rattle.bank_shared.specs.declared.advance.Advance.TheVariants.{Done, Gone, Nothing}
+use Rattle.bank_shared.specs.Outcomes.{Commits, Faults, IsRefused, HasFound, IsNoLongerLegal, SeesAny}
+use Rattle.bank_shared.specs.declared.advance.Advance.TheVariants.{Nothing}
 use Rattle.bank_shared.proofs.Meeting.{ClaimsNone, none_of_effects, none_of_both, none_of_adopted, one_of_answer, one_of_fault, gains_ending, gains_nothing, gains_stays, sees_more, no_longer}
 
 -- ---- what settling adds to the log, of which nothing is a caller's
@@ -63,57 +64,85 @@ none_before_answer : (old between : JournalView) (event : Event) (at : Moment) (
 none_before_answer old between event at s =
     none_of_both s.added (effects_of between.setup between.state at event) s.none (none_of_effects between.setup between.state at event)
 
--- ---- files
+-- ---- events
 
-pub committed : (setup : Setup) (opening : State) (board : BoardView) (old new : JournalView) (before after : PassView) (user : UserId) (file : RequestFile) (at : Moment) (reply : List ℕ)
-    → TokensHold → BeginsAt setup opening board → Meets board old.log new.log before after → AnswersNext old new (File user file) at reply
-    → IsCommitted user file at reply (Some (caller_of opening before)) (Some (caller_of opening after))
-committed setup opening board old new before after user file at reply law begins m next =
-    let event : Event = File user file in
-    let s = settled old next.between next.settles in
-    let others : List LogItem = s.added ++ effects_of next.between.setup next.between.state at event in
+pub commits : (setup : Setup) (opening : State) (board : BoardView) (old between new : JournalView) (before after : PassView) (event : Event) (at : Moment) (reply : List ℕ)
+    → TokensHold → BeginsAt setup opening board → Meets board old.log new.log before after → IsSettled old between → Answers between new event at reply
+    → Commits event at reply (caller_of opening before) (caller_of opening after)
+commits setup opening board old between new before after event at reply law begins m settles answers =
+    let s = settled old between settles in
+    let others : List LogItem = s.added ++ effects_of between.setup between.state at event in
     record {
       others = m.heard.seen.0 ++ others;
-      event = event;
-      same = refl;
-      knows = gains_ending setup opening board old.log new.log others ((m.heard.seen.0 ++ others) ++ Answer event at reply ∷ []) (Answer event at reply) before after law begins m
-          (answer_log old next.between new event at reply s next.answers) (append_assoc m.heard.seen.0 others (Answer event at reply ∷ []))
-          (none_before_answer old next.between event at s) (one_of_answer event at reply);
+      gains = gains_ending setup opening board old.log new.log others ((m.heard.seen.0 ++ others) ++ Answer event at reply ∷ []) (Answer event at reply) before after law begins m
+          (answer_log old between new event at reply s answers) (append_assoc m.heard.seen.0 others (Answer event at reply ∷ []))
+          (none_before_answer old between event at s) (one_of_answer event at reply);
     }
 
-faulted : (setup : Setup) (opening : State) (board : BoardView) (old new others : List LogItem) (before after : PassView) (user : UserId) (file : RequestFile) (at : Moment) (count : ℕ)
+faults : (setup : Setup) (opening : State) (board : BoardView) (old new others : List LogItem) (before after : PassView) (event : Event) (at : Moment) (count : ℕ)
     (pending : Option (Event × Moment)) → TokensHold → BeginsAt setup opening board → Meets board old new before after → new ≡ old ++ (others ++ Fault count pending ∷ []) → ClaimsNone others
-    → IsOfFile user file at pending → IsFaulted user file at count (Some (caller_of opening before)) (Some (caller_of opening after))
-faulted setup opening board old new others before after user file at count pending law begins m log none own = record {
+    → IfSome pending (λ (p : Event × Moment). (p.0 ≡ event) × (p.1 ≡ at)) → Faults event at count (caller_of opening before) (caller_of opening after)
+faults setup opening board old new others before after event at count pending law begins m log none own = record {
   others = m.heard.seen.0 ++ others;
   pending = pending;
   own = own;
-  knows = gains_ending setup opening board old new others ((m.heard.seen.0 ++ others) ++ Fault count pending ∷ []) (Fault count pending) before after law begins m log
+  gains = gains_ending setup opening board old new others ((m.heard.seen.0 ++ others) ++ Fault count pending ∷ []) (Fault count pending) before after law begins m log
       (append_assoc m.heard.seen.0 others (Fault count pending ∷ [])) none (one_of_fault count pending);
 }
 
 -- it couldn't be settled
-pub unsettled : (setup : Setup) (opening : State) (board : BoardView) (old new : JournalView) (before after : PassView) (user : UserId) (file : RequestFile) (at : Moment) (fault : SubmitFault)
+pub unsettled : (setup : Setup) (opening : State) (board : BoardView) (old new : JournalView) (before after : PassView) (event : Event) (at : Moment) (fault : SubmitFault)
     → TokensHold → BeginsAt setup opening board → MeetsOrStays board old.log new.log before after → LeavesPending old new fault
-    → IsUncommitted user file at (Some (caller_of opening before)) (Some (caller_of opening after)) fault
-unsettled setup opening board old new before after user file at (Keeper count) law begins (inl m) stays =
-    faulted setup opening board old.log new.log [] before after user file at count None law begins m stays.fails.log (λ count. refl) tt
-unsettled setup opening board old new before after user file at (Keeper count) law begins (inr same) stays =
+    → IsRefused event at (caller_of opening before) (caller_of opening after) fault
+unsettled setup opening board old new before after event at (Keeper count) law begins (inl m) stays =
+    faults setup opening board old.log new.log [] before after event at count None law begins m stays.fails.log (λ count. refl) tt
+unsettled setup opening board old new before after event at (Keeper count) law begins (inr same) stays =
     absurd (no_longer old.log (Fault count None) (sym same.1 ∙ stays.fails.log))
-unsettled setup opening board old new before after user file at OutOfMemory law begins (inl m) same =
+unsettled setup opening board old new before after event at OutOfMemory law begins (inl m) same =
     gains_nothing opening board old.log new.log [] before after m (same.log ∙ sym (append-nil old.log)) (λ count. refl)
-unsettled setup opening board old new before after user file at OutOfMemory law begins (inr stays) same = gains_stays opening before after stays.0
+unsettled setup opening board old new before after event at OutOfMemory law begins (inr stays) same = gains_stays opening before after stays.0
 
 -- it failed after the settling
-pub uncommitted : (setup : Setup) (opening : State) (board : BoardView) (old between new : JournalView) (before after : PassView) (user : UserId) (file : RequestFile) (at : Moment) (fault : SubmitFault)
-    → TokensHold → BeginsAt setup opening board → Meets board old.log new.log before after → IsSettled old between → FailsToCommit between new (File user file) at fault
-    → IsUncommitted user file at (Some (caller_of opening before)) (Some (caller_of opening after)) fault
-uncommitted setup opening board old between new before after user file at (Keeper count) law begins m settles fails =
+pub uncommitted : (setup : Setup) (opening : State) (board : BoardView) (old between new : JournalView) (before after : PassView) (event : Event) (at : Moment) (fault : SubmitFault)
+    → TokensHold → BeginsAt setup opening board → Meets board old.log new.log before after → IsSettled old between → FailsToCommit between new event at fault
+    → IsRefused event at (caller_of opening before) (caller_of opening after) fault
+uncommitted setup opening board old between new before after event at (Keeper count) law begins m settles fails =
     let s = settled old between settles in
-    faulted setup opening board old.log new.log s.added before after user file at count (Some (File user file, at)) law begins m
-    (after_settling old.log between.log new.log s.added (Fault count (Some (File user file, at)) ∷ []) s.log fails.fails.log) s.none (refl, refl)
-uncommitted setup opening board old between new before after user file at OutOfMemory law begins m settles fails =
+    faults setup opening board old.log new.log s.added before after event at count (Some (event, at)) law begins m
+    (after_settling old.log between.log new.log s.added (Fault count (Some (event, at)) ∷ []) s.log fails.fails.log) s.none (refl, refl)
+uncommitted setup opening board old between new before after event at OutOfMemory law begins m settles fails =
     let s = settled old between settles in gains_nothing opening board old.log new.log s.added before after m (fails.log ∙ s.log) s.none
+
+-- memory was refused after the settling
+pub settled_alone : (opening : State) (board : BoardView) (old new : JournalView) (before after : PassView) → Meets board old.log new.log before after → IsSettled old new
+    → GainsNothing (caller_of opening before) (caller_of opening after)
+settled_alone opening board old new before after m settles =
+    let s = settled old new settles in gains_nothing opening board old.log new.log s.added before after m s.log s.none
+
+-- ---- files
+
+committed_file : (event : Event) (user : UserId) (file : RequestFile) (at : Moment) (reply : List ℕ) (before after : CallerView) → event ≡ File user file → Commits event at reply before after
+    → IsCommitted user file at reply (Some before) (Some after)
+committed_file event user file at reply before after is c = record { others = c.others; event = event; same = ap without_signon is; knows = c.gains }
+
+refused_file : (event : Event) (user : UserId) (file : RequestFile) (at : Moment) (fault : SubmitFault) (before after : CallerView) → event ≡ File user file
+    → IsRefused event at before after fault → IsUncommitted user file at (Some before) (Some after) fault
+refused_file event user file at (Keeper count) before after is r = record { others = r.others; pending = r.pending; own = own r.pending r.own; knows = r.gains }
+  where
+    own : (pending : Option (Event × Moment)) → IfSome pending (λ (p : Event × Moment). (p.0 ≡ event) × (p.1 ≡ at)) → IsOfFile user file at pending
+    own None of = tt
+    own (Some p) of = (ap without_signon (of.0 ∙ is), of.1)
+refused_file event user file at OutOfMemory before after is r = r
+
+pub committed_if : {A : Type 0} (items : A → List ℕ) (result : Result A SubmitFault) (event : Event) (user : UserId) (file : RequestFile) (at : Moment) (before after : CallerView) → event ≡ File user file
+    → IfOk result (λ (reply : A). Commits event at (items reply) before after) → IfOk result (λ (reply : A). IsCommitted user file at (items reply) (Some before) (Some after))
+committed_if items (Ok reply) event user file at before after is c = committed_file event user file at (items reply) before after is c
+committed_if items (Err fault) event user file at before after is c = tt
+
+pub refused_if : {A : Type 0} (result : Result A SubmitFault) (event : Event) (user : UserId) (file : RequestFile) (at : Moment) (before after : CallerView) → event ≡ File user file
+    → IfErr result (IsRefused event at before after) → IfErr result (IsUncommitted user file at (Some before) (Some after))
+refused_if (Ok reply) event user file at before after is r = tt
+refused_if (Err fault) event user file at before after is r = refused_file event user file at fault before after is r
 
 -- ---- due work
 
@@ -127,31 +156,15 @@ due_at : (setup own : Setup) (state look : State) (at : Moment) (answer : Option
 due_at setup own state look at answer whose is due_is =
     subst (λ (S : State). due setup S at ≡ answer) is (subst (λ (s : Setup). due s state at ≡ answer) whose due_is)
 
+pub legal_at : (setup own : Setup) (state look : State) (at : Moment) (event : Event) → own ≡ setup → state ≡ look → IsLegal own state at event → IsLegal setup look at event
+legal_at setup own state look at event whose is legal =
+    subst (λ (S : State). IsLegal setup S at event) is (subst (λ (s : Setup). IsLegal s state at event) whose legal)
+
 -- as the book's look has found it
 pub due_seen : (setup own : Setup) (state held : State) (at : Moment) (found answer : Option Event) → own ≡ setup → held ≡ state → found ≡ due own held at → found ≡ answer
     → due setup state at ≡ answer
 due_seen setup own state held at found answer whose is seen answered =
     subst (λ (s : Setup). due s state at ≡ answer) whose (subst (λ (S : State). due own S at ≡ answer) is (sym seen ∙ answered))
-
-pub done : (setup : Setup) (opening : State) (board : BoardView) (old between new : JournalView) (before after : PassView) (event : Event) (at : Moment) (reply : List ℕ)
-    → TokensHold → BeginsAt setup opening board → Meets board old.log new.log before after → IsSettled old between → between.setup ≡ setup
-    → between.state ≡ ends setup opening between.log → due between.setup between.state at ≡ Some event → Answers between new event at reply
-    → HasDone setup at event (caller_of opening before) (caller_of opening after)
-done setup opening board old between new before after event at reply law begins m settles own in_state due_is answers =
-    let s = settled old between settles in
-    let effects : List LogItem = effects_of between.setup between.state at event in
-    let look : List LogItem = m.heard.seen.0 ++ s.added in
-    record {
-      look = look;
-      due_is = due_at setup between.setup between.state (state_at setup (caller_of opening before) look) at (Some event) own
-          (look_state setup opening board old between new.log before after m s in_state) due_is;
-      between = effects;
-      reply = reply;
-      gains = gains_ending setup opening board old.log new.log (s.added ++ effects) (look ++ effects ++ Answer event at reply ∷ []) (Answer event at reply) before after law begins m
-          (answer_log old between new event at reply s answers)
-          (ap (λ (l : List LogItem). l ++ Answer event at reply ∷ []) (append_assoc m.heard.seen.0 s.added effects) ∙ append_assoc m.heard.seen.0 (s.added ++ effects) (Answer event at reply ∷ []))
-          (none_before_answer old between event at s) (one_of_answer event at reply);
-    }
 
 pub nothing : (setup : Setup) (opening : State) (board : BoardView) (old new : JournalView) (before after : PassView) (at : Moment) → TokensHold → BeginsAt setup opening board
     → Meets board old.log new.log before after → IsSettled old new → new.setup ≡ setup → new.state ≡ ends setup opening new.log → due new.setup new.state at ≡ None
@@ -182,42 +195,34 @@ idle setup opening board old new before after at OutOfMemory law begins (inl m) 
     gains_nothing opening board old.log new.log [] before after m (same.log ∙ sym (append-nil old.log)) (λ count. refl)
 idle setup opening board old new before after at OutOfMemory law begins (inr stays) same = gains_stays opening before after stays.0
 
--- the due event couldn't be committed after the settling
-pub undone : (setup : Setup) (opening : State) (board : BoardView) (old between new : JournalView) (before after : PassView) (event : Event) (at : Moment) (fault : SubmitFault)
-    → TokensHold → BeginsAt setup opening board → Meets board old.log new.log before after → IsSettled old between → between.setup ≡ setup
-    → between.state ≡ ends setup opening between.log → due between.setup between.state at ≡ Some event → FailsToCommit between new event at fault
-    → IsUnadvanced setup at (caller_of opening before) (caller_of opening after) fault
-undone setup opening board old between new before after event at (Keeper count) law begins m settles own in_state due_is fails =
-    let s = settled old between settles in
+pub found : (setup : Setup) (opening : State) (board : BoardView) (old new : JournalView) (before after : PassView) (event : Event) (at : Moment) → TokensHold → BeginsAt setup opening board
+    → Meets board old.log new.log before after → IsSettled old new → new.setup ≡ setup → new.state ≡ ends setup opening new.log → due new.setup new.state at ≡ Some event
+    → IsLegal new.setup new.state at event → HasFound setup at event (caller_of opening before) (caller_of opening after)
+found setup opening board old new before after event at law begins m settles own in_state due_is legal =
+    let s = settled old new settles in
     let look : List LogItem = m.heard.seen.0 ++ s.added in
-    let pending : Option (Event × Moment) = Some (event, at) in
+    let state : new.state ≡ state_at setup (caller_of opening before) look = look_state setup opening board old new new.log before after m s in_state in
     record {
       look = look;
-      between = [];
-      pending = pending;
-      was_due =
-          (due_at setup between.setup between.state (state_at setup (caller_of opening before) look) at (Some event) own (look_state setup opening board old between new.log before after m s in_state) due_is, refl);
-      gains = gains_ending setup opening board old.log new.log s.added (look ++ [] ++ Fault count pending ∷ []) (Fault count pending) before after law begins m
-          (after_settling old.log between.log new.log s.added (Fault count pending ∷ []) s.log fails.fails.log)
-          (append_assoc look [] (Fault count pending ∷ []) ∙ append_assoc m.heard.seen.0 s.added (Fault count pending ∷ [])) s.none (one_of_fault count pending);
+      due_is = due_at setup new.setup new.state (state_at setup (caller_of opening before) look) at (Some event) own state due_is;
+      legal = legal_at setup new.setup new.state (state_at setup (caller_of opening before) look) at event own state legal;
+      sees = sees_more setup opening board old.log new.log s.added before after law begins m s.log s.none;
     }
-undone setup opening board old between new before after event at OutOfMemory law begins m settles own in_state due_is fails =
-    let s = settled old between settles in gains_nothing opening board old.log new.log s.added before after m (fails.log ∙ s.log) s.none
 
--- ---- what a call answered
+pub no_longer_legal : (setup : Setup) (opening : State) (board : BoardView) (old new : JournalView) (before after : PassView) (event : Event) (at : Moment) → TokensHold → BeginsAt setup opening board
+    → Meets board old.log new.log before after → IsSettled old new → new.setup ≡ setup → new.state ≡ ends setup opening new.log → (IsLegal new.setup new.state at event → ⊥)
+    → IsNoLongerLegal setup at event (caller_of opening before) (caller_of opening after)
+no_longer_legal setup opening board old new before after event at law begins m settles own in_state illegal =
+    let s = settled old new settles in
+    let between : List LogItem = m.heard.seen.0 ++ s.added in
+    let state : new.state ≡ state_at setup (caller_of opening before) between = look_state setup opening board old new new.log before after m s in_state in
+    record {
+      between = between;
+      illegal = λ legal. illegal (legal_at new.setup setup (state_at setup (caller_of opening before) between) new.state at event (sym own) (sym state) legal);
+      sees = sees_more setup opening board old.log new.log s.added before after law begins m s.log s.none;
+    }
 
-pub committed_if : {A : Type 0} (items : A → List ℕ) (result : Result A SubmitFault) (setup : Setup) (opening : State) (board : BoardView) (old new : JournalView) (before after : PassView)
-    (user : UserId) (file : RequestFile) (at : Moment) → TokensHold → BeginsAt setup opening board → Meets board old.log new.log before after
-    → IfOk result (λ (reply : A). AnswersNext old new (File user file) at (items reply))
-    → IfOk result (λ (reply : A). IsCommitted user file at (items reply) (Some (caller_of opening before)) (Some (caller_of opening after)))
-committed_if items (Ok reply) setup opening board old new before after user file at law begins m answers =
-    committed setup opening board old new before after user file at (items reply) law begins m answers
-committed_if items (Err fault) setup opening board old new before after user file at law begins m answers = tt
-
-pub uncommitted_if : {A : Type 0} (result : Result A SubmitFault) (setup : Setup) (opening : State) (board : BoardView) (old between new : JournalView) (before after : PassView)
-    (user : UserId) (file : RequestFile) (at : Moment) → TokensHold → BeginsAt setup opening board → Meets board old.log new.log before after → IsSettled old between
-    → IfErr result (FailsToCommit between new (File user file) at)
-    → IfErr result (IsUncommitted user file at (Some (caller_of opening before)) (Some (caller_of opening after)))
-uncommitted_if (Ok reply) setup opening board old between new before after user file at law begins m settles fails = tt
-uncommitted_if (Err fault) setup opening board old between new before after user file at law begins m settles fails =
-    uncommitted setup opening board old between new before after user file at fault law begins m settles fails
+pub sees_any : (setup : Setup) (opening : State) (board : BoardView) (old new : JournalView) (before after : PassView) → TokensHold → BeginsAt setup opening board
+    → Meets board old.log new.log before after → IsSettled old new → SeesAny (caller_of opening before) (caller_of opening after)
+sees_any setup opening board old new before after law begins m settles =
+    let s = settled old new settles in (m.heard.seen.0 ++ s.added, sees_more setup opening board old.log new.log s.added before after law begins m s.log s.none)

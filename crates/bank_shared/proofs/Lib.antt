@@ -2,6 +2,9 @@ pub mod Asked
 pub mod Begun
 pub mod CallLemmas
 pub mod Callers
+pub mod Holding
 pub mod Meeting
+pub mod Numbers
 pub mod Publishes
+pub mod Since
 pub mod Starting

@@ -1,32 +1,31 @@
 -- What a caller knows once its pass has met what was published in a hold.
-use Rattle.std.proofs.Common.{◌≡◌, ℕ, ◌+◌, inl, inr, true, List, Option, [], ◌∷◌, ◌++◌, length, drop, map, All, refl, sym, ap, ◌∙◌, subst, append_assoc, append-nil, length-append, arith}
+use Rattle.std.proofs.Common.{◌≡◌, ℕ, ◌+◌, true, List, Option, [], ◌∷◌, ◌++◌, length, drop, All, refl, sym, ap, ◌∙◌, subst, append_assoc, append-nil, length-append, arith}
 use Rattle.std.specs.List.{flat_map}
 use Rattle.std.proofs.lemmas.List.{append_cancel_left}
 use Rattle.std.proofs.lemmas.List.Elements.{All-weaker, Contains-append_left}
 use Rattle.ofx_types.specs.declared.number.Moment.{Moment}
-use Rattle.bank_model.specs.declared.entry.Entry.{Entry}
 use Rattle.bank_model.specs.declared.event.Event.{Event}
 use Rattle.bank_model.specs.declared.event.State.{State}
 use Rattle.bank_model.specs.declared.log.LogItem.{LogItem}
-use Rattle.bank_model.specs.declared.log.LogItem.TheVariants.{Effect, Answer, Adopted, Fault}
+use Rattle.bank_model.specs.declared.log.LogItem.TheVariants.{Answer, Adopted, Fault}
 use Rattle.bank_model.specs.declared.setup.Setup.{Setup}
-use Rattle.bank_model.specs.LegalLog.{IsWholeLog, effects_of, group}
+use Rattle.bank_model.specs.LegalLog.{effects_of, group}
 use Rattle.bank_model.specs.Log.{is_ending, endings, entry_of, entries_in}
 use Rattle.bank_model.specs.Rules.{state_after}
 use Rattle.bank_model.proofs.Logs.{entries-grown}
 use Rattle.token_board.specs.declared.view.Load.{Load}
-use Rattle.token_board.specs.Tokens.{Begins, IsTokenIn}
+use Rattle.token_board.specs.Tokens.{IsTokenIn}
 use Rattle.token_board.specs.Views.{BoardView, PassView}
 use Rattle.token_board.specs.Publishing.{claims_in, Meets}
 use Rattle.token_board.proofs.Numbers.{count-append}
 use Rattle.token_board.proofs.Publishing.{claims-append, claims_entries, one_more}
 use Rattle.bank_callers.specs.Boards.{TokensHold}
 use Rattle.bank_callers.specs.Callers.{GainsEnding, GainsNothing, SeesMore, HoldsIn}
-use Rattle.bank_shared.specs.Holds.{BeginsAt, IsPassOf, MeetsOrStays, caller_of}
+use Rattle.bank_shared.specs.Holds.{BeginsAt, caller_of}
 
 -- ---- two steps of one hold
 
-meets_twice : (board : BoardView) (first second third : List LogItem) (old mid new : PassView) → Meets board first second old mid → Meets board second third mid new
+pub meets_twice : (board : BoardView) (first second third : List LogItem) (old mid new : PassView) → Meets board first second old mid → Meets board second third mid new
     → Meets board first third old new
 meets_twice board first second third old mid new one two =
     let count : ℕ = length (endings first) in
@@ -46,24 +45,6 @@ meets_twice board first second third old mid new one two =
       polled = two.polled ∙ one.polled;
       endings = two.endings;
     }
-
--- A pass that has met and then stays as it is, since nothing more was published, has met all.
-pub then_meets : (board : BoardView) (first second third : List LogItem) (old mid new : PassView) → Meets board first second old mid → MeetsOrStays board second third mid new
-    → Meets board first third old new
-then_meets board first second third old mid new one (inl two) = meets_twice board first second third old mid new one two
-then_meets board first second third old mid new one (inr stays) =
-    subst (λ (p : PassView). Meets board first third old p) (sym stays.0) (subst (λ (l : List LogItem). Meets board first l old mid) (sym stays.1) one)
-
--- ---- the pass
-
-pub is_pass : (setup : Setup) (opening : State) (board : BoardView) (before after : List LogItem) (old new : PassView) → IsPassOf setup opening board old → IsWholeLog setup opening after
-    → MeetsOrStays board before after old new → IsPassOf setup opening board new
-is_pass setup opening board before after old new is legal (inl meets) = record {
-  own = meets.table ∙ is.own;
-  legal = subst (IsWholeLog setup opening) (sym meets.seen) legal;
-  mine = meets.endings;
-}
-is_pass setup opening board before after old new is legal (inr stays) = subst (IsPassOf setup opening board) (sym stays.0) is
 
 -- ---- items that are nobody's, and those that are the caller's
 

@@ -1,38 +1,34 @@
-//! A bank that many callers share: its locked bank behind a lock, and before it the board of its newest tokens.
+//! A bank that many callers share: the row of its accounts, its journal behind a lock, and the board of its newest tokens.
 
-ghost use Rattle.std.specs.Prelude.{◌≡◌, ◌<◌, ◌++◌, [], true, false, Option, Some, length, IfOk, IfErr, OnErr};
+ghost use Rattle.std.specs.Prelude.{◌≡◌, ◌<◌, ◌++◌, [], true, false, Option, Some, length, IfOk, OnErr};
 ghost use Rattle.std.specs.Option.{option_map, option_to_list};
 ghost use Rattle.ofx_types.specs.Calendar.{IsMoment};
 ghost use Rattle.bank_model.specs.Polls as polls;
 ghost use Rattle.bank_model.specs.SetupForm.{IsWithinLimits};
-ghost use Rattle.bank_model.specs.Sound.{IsSound};
 ghost use Rattle.token_board.specs.declared.view.Load.{Load};
-ghost use Rattle.bank_callers.specs.Callers.{IsRightView, IsCommitted, IsUncommitted, IsLooked, HasLoaded, HasPolled};
+ghost use Rattle.bank_callers.specs.Callers.{IsRightView, IsLooked, HasLoaded, HasPolled};
 ghost use Rattle.bank_callers.specs.Polled.{object_asked};
-ghost use Rattle.bank_shared.specs.Advancing.{IsAdvanced, IsUnadvanced};
 ghost use Rattle.bank_shared.specs.Asking.{HasAsked};
 ghost use Rattle.bank_shared.specs.Holds.{HasOpened, BeginsAt, IsPassOf, caller_of};
 
-use crate::advance::Advance;
-use crate::locked_bank::LockedBank;
+use crate::journal::Journal;
 use crate::name::BankName;
 use crate::opened::Opened;
+use bank_accounts::AccountRow;
 use bank_callers::laws::tokens_are_the_banks;
 use bank_callers::{add_answer, poll_reply};
 use bank_invariants::laws::states::{books_are_right, every_state_is_sound};
-use bank_model::{Printer, Setup, SubmitFault};
-use ofx_ports::{Gate, Keeper};
+use bank_model::{Printer, Setup};
+use ofx_ports::Keeper;
 use ofx_types::{Ask, AskReplies, Moment, OutOfMemory, RequestFile, Sequence, UserId};
 use std::alloc::Global;
 use std::marker::Model;
-use std::sync::{Mutex, Wait};
+use std::sync::Mutex;
 use token_board::{Board, Pass};
 
-/// The call of a gate before due work is looked for.
-const ADVANCE: u64 = 1 << 32;
-
-/// The bank that `N` names. Files and due work take turns at its locked bank. Polls are answered from the board of newest tokens,
-/// and wait for nobody.
+/// The bank that `N` names. A file takes the accounts that it names from the row, and then takes its turn at the journal; so does a
+/// transfer that is due. Files that have no account in common wait for each other at the journal alone. Polls are answered from the
+/// board of newest tokens, and wait for nobody.
 ///
 /// ```rust
 /// use bank_model::Setup;
@@ -58,15 +54,16 @@ const ADVANCE: u64 = 1 << 32;
 /// };
 /// ```
 pub struct Bank<N: BankName, K: Keeper, P: Printer> {
-    alloc: Global,
-    setup: Setup,
+    pub(crate) alloc: Global,
+    pub(crate) setup: Setup,
     printer: P,
-    board: Board,
-    locked: Mutex<LockedBank<N, K, P>>,
+    pub(crate) board: Board,
+    pub(crate) row: AccountRow,
+    pub(crate) journal: Mutex<Journal<N, K, P>>,
 }
 
 impl<N: BankName, K: Keeper, P: Printer> Model for Bank<N, K, P> {
-    ghost use Rattle.std.specs.Prelude.{◌≡◌};
+    ghost use Rattle.std.specs.Prelude.{◌≡◌, length};
     ghost use Rattle.bank_model.specs.SetupForm.{IsWithinLimits};
     ghost use Rattle.bank_model.specs.declared.setup.Setup.{Setup};
     ghost use Rattle.bank_shared.specs.Holds.{HasOpened, BeginsAt};
@@ -76,7 +73,8 @@ impl<N: BankName, K: Keeper, P: Printer> Model for Bank<N, K, P> {
     ghost view = { λ b. b.setup };
 
     ghost invariant = { λ b. (b.setup ≡ N.setup) × (b.board ≡ N.board) × IsWithinLimits N.setup
-        × HasOpened N.setup N.opening × BeginsAt N.setup N.opening N.board };
+        × HasOpened N.setup N.opening × BeginsAt N.setup N.opening N.board × (b.row.tables ≡ N.tables)
+        × (length N.tables ≡ length N.setup.accounts) };
 }
 
 impl<N: BankName, K: Keeper, P: Printer> Drop for Bank<N, K, P> {
@@ -86,7 +84,8 @@ impl<N: BankName, K: Keeper, P: Printer> Drop for Bank<N, K, P> {
             setup: _,
             printer: _,
             board: _,
-            locked: _,
+            row: _,
+            journal: _,
         } = self;
     }
 }
@@ -98,17 +97,19 @@ impl<N: BankName, K: Keeper, P: Printer> Bank<N, K, P> {
         requires opening { opened.state ≡ N.opening }
         requires first { opened.opened ≡ N.first }
         requires board { opened.board ≡ N.board }
+        requires tables { opened.tables ≡ N.tables }
         ensures fresh { result.1 ≡ record { table = N.board.table; seen = []; mine = []; polled = [] } }
         ensures pass { IsPassOf N.setup N.opening N.board result.1 }
     {
         let (parts, pass) = opened.into_parts();
-        let (alloc, setup, printer, board, locked) = parts.into_fields();
+        let (alloc, setup, printer, board, (row, journal)) = parts.into_fields();
         let bank = Bank {
             alloc,
             setup,
             printer,
             board,
-            locked: Mutex::new(locked),
+            row,
+            journal: Mutex::new(journal),
         };
         (bank, pass)
     }
@@ -140,69 +141,6 @@ impl<N: BankName, K: Keeper, P: Printer> Bank<N, K, P> {
         books_are_right();
         let _ = &self.setup;
         let _ = pass;
-    }
-
-    /// Answers a file of a user, which is sound and no poll. The gate is passed with the user's number before the lock is taken.
-    ///
-    /// What the pass has seen then ends with the file's ending, which is its own: the answer with this reply, or a fault of the
-    /// keeper. Other callers' endings may come before it. Each token of at least 1 that the pass had loaded is the number of an
-    /// entry of its object there. What it knows is right: in the state after it no user's TRNUID is used twice, and the balances
-    /// add up to the opening ones.
-    ///
-    /// - `Keeper(n)`: the keeper's count of faults rose to n in this call, and the log has this fault.
-    /// - `OutOfMemory`: the pass owns nothing new.
-    pub fn submit<R: Wait, G: Gate>(
-        &self,
-        rt: &R,
-        pass: &mut Pass,
-        user: UserId,
-        file: &RequestFile,
-        at: Moment,
-        gate: &G,
-    ) -> Result<Vec<u8>, SubmitFault>
-        requires pass { IsPassOf N.setup N.opening N.board pass.old }
-        requires moment { IsMoment at.0 }
-        requires known { user.0 < length N.setup.users }
-        requires sound { IsSound file.now }
-        requires event { polls.is_poll file.now ≡ false }
-        ensures answered { IfOk result (λ reply. IsCommitted user file.now at reply.items
-            (Some (caller_of N.opening pass.old)) (Some (caller_of N.opening pass.new))) }
-        ensures refused { IfErr result (IsUncommitted user file.now at
-            (Some (caller_of N.opening pass.old)) (Some (caller_of N.opening pass.new))) }
-        ensures pass { IsPassOf N.setup N.opening N.board pass.new }
-        ensures right { IsRightView N.setup (caller_of N.opening pass.new) }
-    {
-        gate.pass(u64::from(user.0));
-        let answered = self
-            .locked
-            .lock(rt)
-            .submit(&self.board, pass, user, file, at);
-        self.known(pass);
-        answered
-    }
-
-    /// Makes what is due first at a moment happen. The gate is passed with 2^32 before the lock is taken.
-    ///
-    /// - `Keeper(n)`: the keeper's count of faults rose to n in this call, and the log has this fault.
-    /// - `OutOfMemory`: the pass owns nothing new.
-    pub fn advance<R: Wait, G: Gate>(
-        &self,
-        rt: &R,
-        pass: &mut Pass,
-        at: Moment,
-        gate: &G,
-    ) -> Result<Advance, SubmitFault>
-        requires pass { IsPassOf N.setup N.opening N.board pass.old }
-        requires moment { IsMoment at.0 }
-        ensures advanced { IfOk result (IsAdvanced N.setup at (caller_of N.opening pass.old) (caller_of N.opening pass.new)) }
-        ensures refused { IfErr result (IsUnadvanced N.setup at (caller_of N.opening pass.old) (caller_of N.opening pass.new)) }
-        ensures pass { IsPassOf N.setup N.opening N.board pass.new }
-        ensures right { IsRightView N.setup (caller_of N.opening pass.new) }
-    {
-        gate.pass(ADVANCE);
-        let advanced = self.locked.lock(rt).advance(&self.board, pass, at);
-        self.known(pass);
-        advanced
     }
 
     /// Answers a poll file of a user by one load for each object, in the order of its asks. It waits for nobody.

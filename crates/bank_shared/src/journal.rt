@@ -9,6 +9,7 @@ ghost use Rattle.bank_model.specs.Log.{endings, entries_in};
 ghost use Rattle.bank_model.specs.Rules.{IsLegal, named};
 ghost use Rattle.bank_model.specs.SetupForm.{IsWithinLimits};
 ghost use Rattle.bank_accounts.specs.HeldAccounts.{AreHeld, HaveSameNumbers};
+ghost use Rattle.bank_accounts.specs.Sides.{AreOf};
 ghost use Rattle.bank_ledger.specs.Balanced.{AreBalanced};
 ghost use Rattle.bank_replay.specs.Opening.{RecordsGive};
 ghost use Rattle.bank_engine.specs.Kept.{AreKept};
@@ -36,9 +37,10 @@ use token_board::{Board, Pass, Writer};
 ///
 /// Its log is legal from the state in which the bank opened, without a cut group, and its book stands for the state that the log
 /// ends in. Where the keeper's records were known when the bank opened, it has these, then those of the events that the log
-/// answered and adopted; while an append that failed isn't settled, its record may be stored besides.
+/// answered and adopted; while an append that failed isn't settled, its record may be stored besides. Its book has the other side
+/// of each of the bank's accounts, so whoever has such an account and the journal knows the account's balance after the log.
 pub struct Journal<N: BankName, K: Keeper, P: Printer> {
-    alloc: Global,
+    pub(crate) alloc: Global,
     keeper: K,
     engine: Engine<P>,
     writer: Writer,
@@ -46,6 +48,7 @@ pub struct Journal<N: BankName, K: Keeper, P: Printer> {
 }
 
 impl<N: BankName, K: Keeper, P: Printer> Model for Journal<N, K, P> {
+    ghost use Rattle.std.specs.Prelude.{◌≡◌};
     ghost use Rattle.bank_engine.specs.Truth.{IsTrue};
     ghost use Rattle.bank_engine.specs.Views.{JournalView, journal_of};
     ghost use Rattle.bank_shared.specs.Holds.{IsWriterOf};
@@ -64,7 +67,7 @@ impl<N: BankName, K: Keeper, P: Printer> Model for Journal<N, K, P> {
       landed = K.landed j.keeper;
       unsettled = K.unsettled j.keeper;
       faults = K.faults j.keeper;
-    }) j.writer.log) × IsWriterOf N.setup N.opening N.board j.writer };
+    }) j.writer.log) × IsWriterOf N.setup N.opening N.board j.writer × (j.engine.tables ≡ N.tables) };
 }
 
 impl<N: BankName, K: Keeper, P: Printer> Journal<N, K, P> {
@@ -78,8 +81,10 @@ impl<N: BankName, K: Keeper, P: Printer> Journal<N, K, P> {
         requires settled { K.unsettled keeper ≡ false }
         requires writer { writer ≡ record { table = N.board.table; log = []; claimed = [] } }
         requires begins { BeginsAt N.setup N.opening N.board }
+        requires tables { book.tables ≡ N.tables }
         ensures setup { result.setup ≡ N.setup }
         ensures state { result.state ≡ N.opening }
+        ensures tables { result.tables ≡ N.tables }
         ensures log { result.log ≡ [] }
         ensures pending { result.pending ≡ None }
         ensures records { result.records ≡ K.records keeper }
@@ -100,8 +105,10 @@ impl<N: BankName, K: Keeper, P: Printer> Journal<N, K, P> {
     pub fn book(&self) -> &Book<P>
         ensures setup { result.now.setup ≡ self.now.setup }
         ensures state { result.now.state ≡ self.now.state }
+        ensures tables { result.now.tables ≡ self.now.tables }
         ensures own { self.now.setup ≡ N.setup }
         ensures within { IsWithinLimits self.now.setup }
+        ensures of { self.now.tables ≡ N.tables }
     {
         self.engine.book()
     }
@@ -117,6 +124,7 @@ impl<N: BankName, K: Keeper, P: Printer> Journal<N, K, P> {
         ensures all { IsTrue N.setup N.opening N.first self.now }
         ensures may { IfSome self.now.pending (λ pending. MayHappen self.now.setup self.now.state pending.at pending.event) }
         ensures begins { BeginsAt N.setup N.opening N.board }
+        ensures tables { self.now.tables ≡ N.tables }
     {
         let _ = &self.writer;
         // For the proof alone: its contract says that what is pending may happen.
@@ -144,12 +152,15 @@ impl<N: BankName, K: Keeper, P: Printer> Journal<N, K, P> {
         requires board { board.now ≡ N.board }
         requires pass { pass.old.table ≡ N.board.table }
         requires named { IfSome self.old.pending (λ pending. AreHeld held.old (named self.old.setup self.old.state pending.event)) }
-        requires balanced { AreBalanced self.old.setup self.old.state held.old }
+        requires own { AreOf self.old.tables held.old }
         ensures settled { OnOk result (IsSettled self.old self.new) }
         ensures fails { IfErr result (FailsToSettle self.old self.new) }
         ensures keeper { IfErr result IsOfKeeper }
         ensures pass { Meets N.board self.old.log self.new.log pass.old pass.new }
+        ensures tables { self.new.tables ≡ self.old.tables }
         ensures numbers { HaveSameNumbers held.new held.old }
+        ensures own { AreOf self.new.tables held.new }
+        ensures met { AreBalanced self.old.setup self.old.state held.old }
         ensures balanced { AreBalanced self.new.setup self.new.state held.new }
     {
         endings_are_claimed();
@@ -194,11 +205,14 @@ impl<N: BankName, K: Keeper, P: Printer> Journal<N, K, P> {
         requires legal { IsLegal self.old.setup self.old.state at event.now }
         requires settled { self.old.pending ≡ None }
         requires named { AreHeld held.old (named self.old.setup self.old.state event.now) }
-        requires balanced { AreBalanced self.old.setup self.old.state held.old }
+        requires own { AreOf self.old.tables held.old }
         ensures answers { IfOk result (λ reply. Answers self.old self.new event.now at reply.items) }
         ensures fails { IfErr result (FailsToCommit self.old self.new event.now at) }
         ensures pass { Meets N.board self.old.log self.new.log pass.old pass.new }
+        ensures tables { self.new.tables ≡ self.old.tables }
         ensures numbers { HaveSameNumbers held.new held.old }
+        ensures own { AreOf self.new.tables held.new }
+        ensures met { AreBalanced self.old.setup self.old.state held.old }
         ensures balanced { AreBalanced self.new.setup self.new.state held.new }
         ensures accounts { OnErr result (held.new ≡ held.old) }
     {

@@ -1,25 +1,27 @@
-//! A bank that many callers share: its journal and all of its accounts behind one lock, and beside it the board of tokens.
+//! A bank that many callers share: the row of its accounts, its journal behind a lock, and the board of its newest tokens.
 //!
-//! The `Journal` has the book and the keeper of the records, and its contracts the log of all that its callers were answered. It
-//! commits an event with its record, and settles an append that failed before the next event is looked at. The `LockedBank` lends
-//! it the accounts that an event names. `Bank` puts the locked bank behind a lock: `submit` and `advance` are calls of the locked
-//! bank, and `poll` loads tokens from the board without the lock.
+//! `Bank::submit` and `Bank::advance` take the accounts that an event names from the row, each as soon as it is home, and only then
+//! wait for the `Journal`. So events that have no account in common wait for each other at the journal alone. The journal has the
+//! book and the keeper of the records, and its contracts the log of all that its callers were answered. It commits an event with
+//! its record, and settles an append that failed before the next event is looked at. `Bank::poll` loads tokens from the board and
+//! waits for nobody.
 #![tactic(auto)]
 
 mod advance;
 mod bank;
-mod checkout;
+mod due_work;
+mod hold;
 mod journal;
-mod locked_bank;
 mod name;
 mod opened;
+mod outcome;
 mod publishing;
+mod submitting;
 
 pub use advance::Advance;
 pub use bank::Bank;
 pub use bank_model::SubmitFault;
 pub use journal::Journal;
-pub use locked_bank::LockedBank;
 pub use name::BankName;
-pub use opened::{Opened, Parts};
+pub use opened::Opened;
 pub use token_board::Pass;

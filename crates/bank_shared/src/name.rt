@@ -3,6 +3,7 @@
 ghost use Rattle.std.specs.Prelude.{ℕ, List, Option};
 ghost use Rattle.bank_model.specs.declared.event.State.{State};
 ghost use Rattle.bank_model.specs.declared.setup.Setup.{Setup};
+ghost use Rattle.bank_accounts.specs.AccountView.{Tables};
 ghost use Rattle.token_board.specs.Views.{BoardView};
 
 use std::marker::Brand;
@@ -23,6 +24,9 @@ pub trait BankName {
 
     // the board of its newest tokens
     ghost board: { BoardView };
+
+    // the table of each of its accounts
+    ghost tables: { Tables };
 }
 
 impl BankName for Brand {
@@ -37,4 +41,6 @@ impl BankName for Brand {
     ghost first = { None };
 
     ghost board = { record { table = no_table; start = [] } };
+
+    ghost tables = { [] };
 }

@@ -1,22 +1,21 @@
 //! A bank that has opened from its records, and isn't begun yet.
 
-ghost use Rattle.std.specs.Prelude.{◌≡◌, ℕ, ◌≤◌, ◌⊎◌, [], false, None, IsSome, IsSomeAnd, IfOk, IfErr, IsErrAnd, MatchResult};
+ghost use Rattle.std.specs.Prelude.{◌≡◌, ℕ, ◌≤◌, ◌⊎◌, [], false, None, IsSome, IsSomeAnd, IfOk, IfErr, IsErrAnd, MatchResult, length};
 ghost use Rattle.ofx_ports.specs.Faults.{CountsFaults};
 ghost use Rattle.ofx_ports.specs.Known.{Stays};
 ghost use Rattle.bank_model.specs.declared.event.State.{State};
 ghost use Rattle.bank_model.specs.Rules.{opening_state};
 ghost use Rattle.bank_model.specs.SetupForm.{IsWithinLimits};
 ghost use Rattle.event_codec.specs.Records.{Reopens};
-ghost use Rattle.bank_solo.specs.Solo.{AreAccountsIn, accounts_in};
+ghost use Rattle.bank_solo.specs.Solo.{AreAccountsOf};
 ghost use Rattle.bank_replay.specs.Opening.{RecordsGive, HasNoForm, IsNotLegal, HasCause};
 ghost use Rattle.bank_replay.specs.Replay.{IsOfTheOutside};
 ghost use Rattle.bank_callers.specs.Boards.{AreNewest};
 ghost use Rattle.bank_shared.specs.Holds.{BeginsAt};
 
 use crate::journal::Journal;
-use crate::locked_bank::LockedBank;
 use crate::name::BankName;
-use bank_accounts::{Account, AccountPool};
+use bank_accounts::{Account, AccountRow};
 use bank_core::Book;
 use bank_model::{Printer, Setup};
 use bank_replay::{OpenFault, reopen};
@@ -37,8 +36,8 @@ pub struct Opened<K: Keeper, P: Printer> {
     keeper: K,
     book: Book<P>,
     printer: P,
-    // all accounts, and the board with its writer and its first pass, so that a bank takes no memory when it begins
-    pool: AccountPool,
+    // the row of all accounts, and the board with its writer and its first pass, so that a bank takes no memory when it begins
+    row: AccountRow,
     board: Board,
     writer: Writer,
     pass: Pass,
@@ -47,7 +46,6 @@ pub struct Opened<K: Keeper, P: Printer> {
 impl<K: Keeper, P: Printer> Model for Opened<K, P> {
     ghost use Rattle.std.specs.Prelude.{◌≡◌, [], false};
     ghost use Rattle.bank_model.specs.SetupForm.{IsWithinLimits};
-    ghost use Rattle.bank_solo.specs.Solo.{accounts_in};
     ghost use Rattle.ofx_ports.specs.Known.{Stays};
     ghost use Rattle.bank_replay.specs.Opening.{RecordsGive};
     ghost use Rattle.bank_shared.specs.Holds.{BeginsAt};
@@ -62,11 +60,12 @@ impl<K: Keeper, P: Printer> Model for Opened<K, P> {
       records = K.records o.keeper;
       faults = K.faults o.keeper;
       board = o.board;
+      tables = o.row.tables;
     } };
 
     ghost invariant = { λ o. (o.book.setup ≡ o.setup) × IsWithinLimits o.setup × (K.unsettled o.keeper ≡ false)
         × RecordsGive o.setup (K.records o.opened.value) o.book.state × Stays (K.records o.opened.value) (K.records o.keeper)
-        × (o.pool ≡ accounts_in o.setup o.book.state) × BeginsAt o.setup o.book.state o.board
+        × (o.row.tables ≡ o.book.tables) × BeginsAt o.setup o.book.state o.board
         × (o.writer ≡ record { table = o.board.table; log = []; claimed = [] })
         × (o.pass ≡ record { table = o.board.table; seen = []; mine = []; polled = [] }) };
 }
@@ -80,7 +79,7 @@ impl<K: Keeper, P: Printer> Drop for Opened<K, P> {
             keeper: _,
             book: _,
             printer: _,
-            pool: _,
+            row: _,
             board: _,
             writer: _,
             pass: _,
@@ -133,14 +132,14 @@ impl<K: Keeper, P: Printer> Opened<K, P> {
             Err(fault) => Err((fault, keeper)),
             Ok((book, accounts)) => match made_ready(alloc, &own, &book, accounts) {
                 Err(OutOfMemory) => Err((OpenFault::OutOfMemory, keeper)),
-                Ok((pool, (board, writer, pass))) => Ok(Opened {
+                Ok((row, (board, writer, pass))) => Ok(Opened {
                     alloc,
                     setup: own,
                     opened,
                     keeper,
                     book,
                     printer,
-                    pool,
+                    row,
                     board,
                     writer,
                     pass,
@@ -149,19 +148,30 @@ impl<K: Keeper, P: Printer> Opened<K, P> {
         }
     }
 
+    /// From now on a new file whose reply is longer than so many bytes is refused as for want of memory: nothing of it happens. At
+    /// first any length will do.
+    pub fn bound_replies(&mut self, most: usize)
+        ensures { self.new ≡ self.old }
+    {
+        self.book.bound_replies(most);
+    }
+
     /// What the bank that `N` names is made of, and its first pass. Takes no memory.
-    pub fn into_parts<N: BankName>(self) -> (Parts<N, K, P>, Pass)
+    pub(crate) fn into_parts<N: BankName>(self) -> (Parts<N, K, P>, Pass)
         requires setup { self.setup ≡ N.setup }
         requires opening { self.state ≡ N.opening }
         requires first { self.opened ≡ N.first }
         requires board { self.board ≡ N.board }
+        requires tables { self.tables ≡ N.tables }
         ensures setup { result.0.setup ≡ N.setup }
         ensures board { result.0.board ≡ N.board }
-        ensures of { result.0.locked.setup ≡ N.setup }
-        ensures state { result.0.locked.state ≡ N.opening }
-        ensures log { result.0.locked.log ≡ [] }
-        ensures pending { result.0.locked.pending ≡ None }
-        ensures records { result.0.locked.records ≡ self.records }
+        ensures row { result.0.row.tables ≡ N.tables }
+        ensures count { length N.tables ≡ length N.setup.accounts }
+        ensures of { result.0.journal.setup ≡ N.setup }
+        ensures state { result.0.journal.state ≡ N.opening }
+        ensures log { result.0.journal.log ≡ [] }
+        ensures pending { result.0.journal.pending ≡ None }
+        ensures records { result.0.journal.records ≡ self.records }
         ensures holds { RecordsGive N.setup N.first N.opening }
         ensures within { IsWithinLimits N.setup }
         ensures begins { BeginsAt N.setup N.opening N.board }
@@ -174,18 +184,21 @@ impl<K: Keeper, P: Printer> Opened<K, P> {
             keeper,
             book,
             printer,
-            pool,
+            row,
             board,
             writer,
             pass,
         } = self;
+        // For the proof alone: its contract says that there is a table for each account of the setup.
+        let _setup = book.setup();
         let journal = Journal::new(alloc, keeper, book, writer);
         let parts = Parts {
             alloc,
             setup,
             printer,
             board,
-            locked: LockedBank::new(alloc, journal, pool),
+            row,
+            journal,
         };
         (parts, pass)
     }
@@ -201,25 +214,29 @@ pub struct Parts<N: BankName, K: Keeper, P: Printer> {
     pub printer: P,
     /// The board of its newest tokens.
     pub board: Board,
+    /// All of its accounts.
+    pub row: AccountRow,
     /// What is behind its lock.
-    pub locked: LockedBank<N, K, P>,
+    pub journal: Journal<N, K, P>,
 }
 
 impl<N: BankName, K: Keeper, P: Printer> Parts<N, K, P> {
     /// Its fields, in their order. Takes no memory.
-    pub(crate) fn into_fields(self) -> (Global, Setup, P, Board, LockedBank<N, K, P>)
+    pub(crate) fn into_fields(self) -> (Global, Setup, P, Board, (AccountRow, Journal<N, K, P>))
         ensures setup { result.1 ≡ self.setup }
         ensures board { result.3 ≡ self.board }
-        ensures locked { result.4 ≡ self.locked }
+        ensures row { result.4.0 ≡ self.row }
+        ensures journal { result.4.1 ≡ self.journal }
     {
         let Parts {
             alloc,
             setup,
             printer,
             board,
-            locked,
+            row,
+            journal,
         } = self;
-        (alloc, setup, printer, board, locked)
+        (alloc, setup, printer, board, (row, journal))
     }
 }
 
@@ -230,29 +247,30 @@ impl<N: BankName, K: Keeper, P: Printer> Drop for Parts<N, K, P> {
             setup: _,
             printer: _,
             board: _,
-            locked: _,
+            row: _,
+            journal: _,
         } = self;
     }
 }
 
-/// The pool of all accounts, and the board with its writer and its first pass.
+/// The row of all accounts, and the board with its writer and its first pass.
 fn made_ready<P: Printer>(
     alloc: Global,
     setup: &Setup,
     book: &Book<P>,
     accounts: Vec<Account>,
-) -> Result<(AccountPool, (Board, Writer, Pass)), OutOfMemory>
+) -> Result<(AccountRow, (Board, Writer, Pass)), OutOfMemory>
     requires setup { setup.now ≡ book.now.setup }
-    requires accounts { AreAccountsIn book.now.setup book.now.state accounts.items }
-    ensures pool { IfOk result (λ made. made.0 ≡ accounts_in book.now.setup book.now.state) }
+    requires accounts { AreAccountsOf book.now.tables accounts.items }
+    ensures row { IfOk result (λ made. made.0.tables ≡ book.now.tables) }
     ensures begins { IfOk result (λ made. BeginsAt book.now.setup book.now.state made.1.0) }
     ensures writer { IfOk result (λ made. made.1.1 ≡ record { table = made.1.0.table; log = []; claimed = [] }) }
     ensures pass { IfOk result (λ made. made.1.2 ≡ record { table = made.1.0.table; seen = []; mine = []; polled = [] }) }
 {
-    let pool = AccountPool::from_vec(alloc, accounts)?;
+    let row = AccountRow::new(alloc, accounts)?;
     let start = newest_numbers(alloc, setup, book)?;
     let made = Board::new(alloc, &start)?;
-    Ok((pool, made))
+    Ok((row, made))
 }
 
 /// The newest number of each object.

@@ -6,6 +6,7 @@ ghost use Rattle.ofx_types.specs.Calendar.{IsMoment};
 ghost use Rattle.bank_model.specs.declared.log.LogItem.{LogItem};
 ghost use Rattle.bank_model.specs.Rules.{IsLegal, named};
 ghost use Rattle.bank_accounts.specs.HeldAccounts.{AreHeld, HaveSameNumbers};
+ghost use Rattle.bank_accounts.specs.Sides.{AreOf};
 ghost use Rattle.bank_ledger.specs.Balanced.{AreBalanced};
 ghost use Rattle.bank_engine.specs.Calls.{Answers, FailsToCommit, Settles, FailsToSettle};
 ghost use Rattle.bank_engine.specs.Steps.{Expects};
@@ -107,7 +108,7 @@ pub(crate) fn commit_at<K: Keeper, P: Printer>(
     requires settled { engine.old.pending ≡ None }
     requires unsettled { K.unsettled keeper.old ≡ false }
     requires named { AreHeld held.old (named engine.old.setup engine.old.state event.now) }
-    requires balanced { AreBalanced engine.old.setup engine.old.state held.old }
+    requires own { AreOf engine.old.tables held.old }
     requires expected { Expects (MayPublish board.now writer.old) engine.old.setup engine.old.state at event.now }
     requires free { MayPublish board.now writer.old [] }
     ensures answers { IfOk result (λ reply. Answers
@@ -119,11 +120,17 @@ pub(crate) fn commit_at<K: Keeper, P: Printer>(
         (journal_of engine.new (record { records = K.records keeper.new; landed = K.landed keeper.new; unsettled = K.unsettled keeper.new; faults = K.faults keeper.new }) writer.new.log)
         event.now at) }
     ensures published { HasPublished board.now writer.new writer.old.log }
+    ensures tables { engine.new.tables ≡ engine.old.tables }
     ensures numbers { HaveSameNumbers held.new held.old }
+    ensures own { AreOf engine.new.tables held.new }
+    ensures met { AreBalanced engine.old.setup engine.old.state held.old }
     ensures balanced { AreBalanced engine.new.setup engine.new.state held.new }
     ensures accounts { OnErr result (held.new ≡ held.old) }
 {
-    let event = event.copy()?;
+    let Ok(event) = event.copy() else {
+        engine.meet(held);
+        return Err(SubmitFault::OutOfMemory);
+    };
     let ready = engine.prepare(alloc, held, event, at)?;
     let mut log = BoardLog { board, writer };
     engine.commit(keeper, &mut log, held, ready)
@@ -141,7 +148,7 @@ pub(crate) fn settle_at<K: Keeper, P: Printer>(
 ) -> Result<bool, SubmitFault>
     requires unsettled { K.unsettled keeper.old ≡ is_some engine.old.pending }
     requires named { IfSome engine.old.pending (λ pending. AreHeld held.old (named engine.old.setup engine.old.state pending.event)) }
-    requires balanced { AreBalanced engine.old.setup engine.old.state held.old }
+    requires own { AreOf engine.old.tables held.old }
     requires expected { IfSome engine.old.pending (λ pending. Expects (MayPublish board.now writer.old) engine.old.setup engine.old.state pending.at pending.event) }
     requires free { MayPublish board.now writer.old [] }
     ensures settled { IfOk result (Settles
@@ -151,7 +158,10 @@ pub(crate) fn settle_at<K: Keeper, P: Printer>(
         (journal_of engine.old (record { records = K.records keeper.old; landed = K.landed keeper.old; unsettled = K.unsettled keeper.old; faults = K.faults keeper.old }) writer.old.log)
         (journal_of engine.new (record { records = K.records keeper.new; landed = K.landed keeper.new; unsettled = K.unsettled keeper.new; faults = K.faults keeper.new }) writer.new.log)) }
     ensures published { HasPublished board.now writer.new writer.old.log }
+    ensures tables { engine.new.tables ≡ engine.old.tables }
     ensures numbers { HaveSameNumbers held.new held.old }
+    ensures own { AreOf engine.new.tables held.new }
+    ensures met { AreBalanced engine.old.setup engine.old.state held.old }
     ensures balanced { AreBalanced engine.new.setup engine.new.state held.new }
 {
     let mut log = BoardLog { board, writer };

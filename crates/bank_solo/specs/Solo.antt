@@ -1,13 +1,17 @@
 -- A bank for one caller: its book, and its accounts in the pool or lent.
-use Rattle.std.specs.Prelude.{◌≡◌, ℕ, ◌<◌, List, map, length, slice_index_or, Option, Some}
-use Rattle.std.specs.List.{range_with_len}
-use Rattle.ofx_types.specs.declared.number.AcctId.{AcctId}
+use Rattle.std.specs.Prelude.{◌≡◌, ℕ, ◌<◌, List, length, slice_index_or}
 use Rattle.bank_model.specs.declared.setup.Setup.{Setup}
 use Rattle.bank_model.specs.declared.event.State.{State}
-use Rattle.bank_model.specs.Ledger.{balance}
-use Rattle.bank_accounts.specs.AccountView.{AccountView}
+use Rattle.bank_accounts.specs.AccountView.{AccountView, Tables}
+use Rattle.bank_accounts.specs.Pool.{AreNumbered}
+use Rattle.bank_accounts.specs.Sides.{tables_of}
 use Rattle.bank_ledger.specs.LedgerView.{Room}
 use Rattle.bank_ledger.specs.Balanced.{AreBalanced}
+
+-- The accounts are numbered from 0 in their order, and these are their tables.
+pub record AreAccountsOf (tables : Tables) (accounts : List AccountView) : Type 0 where
+  pub numbered : AreNumbered accounts
+  pub own : tables_of accounts ≡ tables
 
 -- There is one account for each account line. They are numbered from 0 in their order, and each has its balance of the
 -- state.
@@ -16,19 +20,11 @@ pub record AreAccountsIn (setup : Setup) (state : State) (accounts : List Accoun
   pub numbered : (k : ℕ) (d : AccountView) → k < length accounts → (slice_index_or accounts k d).number.0 ≡ k
   pub balanced : AreBalanced setup state accounts
 
--- the account of a number, with its balance by the rules
-abbrev pub account_in : Setup → State → AcctId → AccountView
-account_in setup state number = record { number = number; balance = record { 0 = balance setup state.entries number } }
-
--- All accounts of the bank, each at the index that is its number.
-abbrev pub accounts_in : Setup → State → List (Option AccountView)
-accounts_in setup state =
-    map (λ (index : ℕ). Some (account_in setup state (record { 0 = index }))) (range_with_len 0 (length setup.accounts))
-
--- What contracts see of such a bank: its setup and its state, the room that is reserved in its book, and the accounts that
--- are checked out for the step of an event.
+-- What contracts see of such a bank: its setup and its state, the room that is reserved in its book, the table of each account,
+-- and the accounts that are checked out for the step of an event.
 pub record SoloView : Type 0 where
   pub setup : Setup
   pub state : State
   pub room : Room
+  pub tables : Tables
   pub held : List AccountView

@@ -5,13 +5,11 @@ ghost use Rattle.ofx_types.specs.Calendar.{IsMoment};
 ghost use Rattle.bank_model.specs.SetupForm.{IsWithinLimits};
 ghost use Rattle.bank_model.specs.Rules.{IsLegal, opening_state, state_after, answer_to, named};
 ghost use Rattle.bank_accounts.specs.HeldAccounts.{AreHeld, AreNamed};
-ghost use Rattle.bank_accounts.specs.Pool.{AreCheckedOut};
 ghost use Rattle.bank_core.specs.BookView.{HasRoom};
-ghost use Rattle.bank_solo.specs.Solo.{AreAccountsIn, accounts_in};
+ghost use Rattle.bank_solo.specs.Solo.{AreAccountsIn, AreAccountsOf};
 
 use bank_accounts::{Account, AccountPool, Held};
 use bank_core::{Book, Prepared};
-use bank_invariants::laws::money::unnamed_accounts_stay;
 use bank_model::{Event, Printer, Setup};
 use ofx_types::{AcctId, Moment, OutOfMemory};
 use std::alloc::Global;
@@ -49,13 +47,19 @@ pub struct SoloBank<P: Printer> {
 impl<P: Printer> Model for SoloBank<P> {
     ghost use Rattle.bank_model.specs.SetupForm.{IsWithinLimits};
     ghost use Rattle.bank_accounts.specs.Pool.{AreCheckedOut};
-    ghost use Rattle.bank_solo.specs.Solo.{SoloView, accounts_in};
+    ghost use Rattle.bank_solo.specs.Solo.{SoloView};
 
     ghost Value = { SoloView };
 
-    ghost view = { λ b. record { setup = b.book.setup; state = b.book.state; room = b.book.room; held = b.held } };
+    ghost view = { λ b. record {
+      setup = b.book.setup;
+      state = b.book.state;
+      room = b.book.room;
+      tables = b.book.tables;
+      held = b.held;
+    } };
 
-    ghost invariant = { λ b. IsWithinLimits b.book.setup × AreCheckedOut (accounts_in b.book.setup b.book.state) b.pool b.held };
+    ghost invariant = { λ b. IsWithinLimits b.book.setup × AreCheckedOut b.book.tables b.pool b.held };
 }
 
 impl<P: Printer> Drop for SoloBank<P> {
@@ -92,9 +96,10 @@ impl<P: Printer> SoloBank<P> {
         accounts: Vec<Account>,
     ) -> Result<SoloBank<P>, OutOfMemory>
         requires within { IsWithinLimits book.setup }
-        requires accounts { AreAccountsIn book.setup book.state accounts.items }
+        requires accounts { AreAccountsOf book.tables accounts.items }
         ensures setup { IfOk result (λ bank. bank.setup ≡ book.setup) }
         ensures state { IfOk result (λ bank. bank.state ≡ book.state) }
+        ensures tables { IfOk result (λ bank. bank.tables ≡ book.tables) }
         ensures pool { IfOk result (λ bank. bank.held ≡ []) }
     {
         let pool = AccountPool::from_vec(alloc, accounts)?;
@@ -109,6 +114,7 @@ impl<P: Printer> SoloBank<P> {
     pub fn book(&self) -> &Book<P>
         ensures setup { result.now.setup ≡ self.now.setup }
         ensures state { result.now.state ≡ self.now.state }
+        ensures tables { result.now.tables ≡ self.now.tables }
         ensures within { IsWithinLimits self.now.setup }
     {
         &self.book
@@ -128,6 +134,7 @@ impl<P: Printer> SoloBank<P> {
         requires pool { self.old.held ≡ [] }
         ensures setup { self.new.setup ≡ self.old.setup }
         ensures state { self.new.state ≡ self.old.state }
+        ensures tables { self.new.tables ≡ self.old.tables }
         ensures of { IfOk result (λ prepared. prepared.setup ≡ self.old.setup) }
         ensures before { IfOk result (λ prepared. prepared.before ≡ self.old.state) }
         ensures event { IfOk result (λ prepared. prepared.event ≡ event.now) }
@@ -153,6 +160,7 @@ impl<P: Printer> SoloBank<P> {
         requires { self.old.held ≡ [] }
         ensures setup { self.new.setup ≡ self.old.setup }
         ensures state { self.new.state ≡ self.old.state }
+        ensures tables { self.new.tables ≡ self.old.tables }
         ensures named { OnOk result (AreHeld self.new.held (named self.old.setup self.old.state event.now)) }
         ensures only { OnOk result (AreNamed self.new.held (named self.old.setup self.old.state event.now)) }
         ensures refused { OnErr result (self.new.held ≡ []) }
@@ -162,18 +170,17 @@ impl<P: Printer> SoloBank<P> {
     }
 
     /// Takes the step that was prepared, and gives the bytes of its reply. All accounts are in the pool then. Takes no memory.
-    pub fn adopt(&mut self, at: Moment, prepared: Prepared) -> Vec<u8>
+    pub fn adopt(&mut self, prepared: Prepared) -> Vec<u8>
         requires of { prepared.setup ≡ self.old.setup }
         requires made { prepared.before ≡ self.old.state }
-        requires after { prepared.after ≡ state_after self.old.setup self.old.state at prepared.event }
         requires room { HasRoom self.old.room self.old.state prepared.after }
         requires named { AreHeld self.old.held (named self.old.setup self.old.state prepared.event) }
         ensures setup { self.new.setup ≡ self.old.setup }
         ensures state { self.new.state ≡ prepared.after }
+        ensures tables { self.new.tables ≡ self.old.tables }
         ensures pool { self.new.held ≡ [] }
         ensures reply { result.items ≡ prepared.reply }
     {
-        unnamed_accounts_stay();
         let reply = self.book.adopt(&mut self.held, prepared);
         self.pool.check_in(&mut self.held);
         reply
@@ -183,6 +190,7 @@ impl<P: Printer> SoloBank<P> {
     pub fn give_up(&mut self)
         ensures setup { self.new.setup ≡ self.old.setup }
         ensures state { self.new.state ≡ self.old.state }
+        ensures tables { self.new.tables ≡ self.old.tables }
         ensures pool { self.new.held ≡ [] }
     {
         self.pool.check_in(&mut self.held);
@@ -194,28 +202,60 @@ impl<P: Printer> SoloBank<P> {
         requires legal { IsLegal self.old.setup self.old.state at event.now }
         requires pool { self.old.held ≡ [] }
         ensures setup { self.new.setup ≡ self.old.setup }
+        ensures tables { self.new.tables ≡ self.old.tables }
         ensures pool { self.new.held ≡ [] }
         ensures state { OnOk result (self.new.state ≡ state_after self.old.setup self.old.state at event.now) }
         ensures reply { IfOk result (λ reply. reply.items ≡ answer_to self.old.setup self.old.state at event.now) }
         ensures refused { OnErr result (self.new.state ≡ self.old.state) }
     {
         let prepared = self.prepare(alloc, event, at)?;
-        Ok(self.adopt(at, prepared))
+        Ok(self.adopt(prepared))
     }
 
-    /// The book, and its accounts in the order of their numbers.
+    /// Makes an event happen again that happened at that moment. Its reply is made only where the state keeps it. Where memory
+    /// is refused, nothing has happened.
+    pub fn replay(&mut self, alloc: Global, event: &Event, at: Moment) -> Result<(), OutOfMemory>
+        requires moment { IsMoment at.0 }
+        requires legal { IsLegal self.old.setup self.old.state at event.now }
+        requires pool { self.old.held ≡ [] }
+        ensures setup { self.new.setup ≡ self.old.setup }
+        ensures tables { self.new.tables ≡ self.old.tables }
+        ensures pool { self.new.held ≡ [] }
+        ensures state { OnOk result (self.new.state ≡ state_after self.old.setup self.old.state at event.now) }
+        ensures refused { OnErr result (self.new.state ≡ self.old.state) }
+    {
+        self.check_out(alloc, event)?;
+        let replayed = self.book.replay(alloc, &mut self.held, event, at);
+        match replayed {
+            Ok(prepared) => {
+                let _reply = self.adopt(prepared);
+                Ok(())
+            }
+            Err(OutOfMemory) => {
+                self.pool.check_in(&mut self.held);
+                Err(OutOfMemory)
+            }
+        }
+    }
+
+    /// The book, and its accounts in the order of their numbers, each with its balance.
     pub fn into_parts(self, alloc: Global) -> Result<(Book<P>, Vec<Account>), OutOfMemory>
         requires { self.held ≡ [] }
         ensures setup { IfOk result (λ parts. parts.0.setup ≡ self.setup) }
         ensures state { IfOk result (λ parts. parts.0.state ≡ self.state) }
         ensures accounts { IfOk result (λ parts. AreAccountsIn self.setup self.state parts.1.items) }
+        ensures own { IfOk result (λ parts. AreAccountsOf parts.0.tables parts.1.items) }
     {
         let SoloBank {
-            book,
+            mut book,
             pool,
             held: _,
         } = self;
+        // For the proof alone: its contract says that there is a table for each account of the setup.
+        let _setup = book.setup();
         let accounts = pool.into_vec(alloc)?;
-        Ok((book, accounts))
+        let mut all = Held::from_vec(accounts);
+        book.meet(&mut all);
+        Ok((book, all.into_vec()))
     }
 }

@@ -12,29 +12,33 @@ use ofx_types::Text;
 use program_arguments::{number_within, text_at};
 use std::fmt;
 
-/// What is wrong with words.
+/// What is wrong with words. Each variant has the number of the word first, counted from 1 after the program's name.
 #[derive(Clone, Copy)]
 pub enum Mistake<'a> {
     /// The word of this name is missing.
-    Missing(&'static str),
+    Missing(usize, &'static str),
     /// This word is one too many.
-    TooMany(&'a str),
+    TooMany(usize, &'a str),
     /// The word of the first name has another form than the last text says.
-    NoForm(&'static str, &'a str, &'static str),
+    NoForm(usize, &'static str, &'a str, &'static str),
     /// The word of the first name, which isn't shown, has another form than the last text says.
-    Secret(&'static str, &'static str),
+    Secret(usize, &'static str, &'static str),
 }
 
 impl fmt::Display for Mistake<'_> {
     fn fmt<W: fmt::Write>(&self, f: &mut fmt::Formatter<W>) -> fmt::Result {
         match *self {
-            Mistake::Missing(name) => write!(f, "{name} is missing"),
-            Mistake::TooMany(argument) => write!(f, "'{argument}' is one word too many"),
-            Mistake::NoForm(name, argument, form) => write!(
+            Mistake::Missing(number, name) => write!(f, "word {number}, {name}, is missing"),
+            Mistake::TooMany(number, argument) => {
+                write!(f, "word {number}, '{argument}', is one too many")
+            }
+            Mistake::NoForm(number, name, argument, form) => write!(
                 f,
-                "{name} is '{argument}'; it is {form}"
+                "word {number}, {name}, is '{argument}'; it has to be {form}"
             ),
-            Mistake::Secret(name, form) => write!(f, "{name} isn't {form}"),
+            Mistake::Secret(number, name, form) => {
+                write!(f, "word {number}, {name}, has to be {form}")
+            }
         }
     }
 }
@@ -83,7 +87,10 @@ impl Kind {
             Kind::Account => ("KIND", "CHECKING, SAVINGS, MONEYMRKT or CREDITLINE"),
             Kind::Amount => ("AMOUNT", "an amount of dollars, as 10.00"),
             Kind::Day => ("DAY", "a date, as 20240131"),
-            Kind::Freq => ("FREQ", "one of the words that are listed above"),
+            Kind::Freq => (
+                "FREQ",
+                "WEEKLY, BIWEEKLY, TWICEMONTHLY, MONTHLY, FOURWEEKS, BIMONTHLY, QUARTERLY, SEMIANNUALLY or ANNUALLY",
+            ),
             Kind::Count => ("COUNT", "a number from 0 to 999"),
             Kind::Id => ("ID", "1 to 10 digits"),
             Kind::Subject => ("SUBJECT", "1 to 64 bytes"),
@@ -147,28 +154,39 @@ fn kinds_of(verb: Verb) -> &'static [Kind] {
     }
 }
 
+/// The commands, as a sentence names them.
+const COMMANDS: &str =
+    "sync, transfer, modify, cancel, repeat, stop, mail, check or show; --help says what each does";
+
+/// The number of the word at this offset, from 1.
+fn number_at(offset: usize) -> usize {
+    offset.saturating_add(1)
+}
+
 /// What is wrong with arguments that have no form.
 pub fn mistake_in(arguments: &[Text]) -> Mistake<'_> {
     if let Some(mistake) = mistake_among(arguments, 0, &PARTIES) {
         return mistake;
     }
-    let Some(command) = arguments.get(PARTIES.len()) else {
-        return Mistake::Missing("COMMAND");
+    let place = PARTIES.len();
+    let Some(command) = arguments.get(place) else {
+        return Mistake::Missing(number_at(place), "COMMAND");
     };
     let Ok(verb) = verb_of(command) else {
         return Mistake::NoForm(
+            number_at(place),
             "COMMAND",
-            text_at(arguments, PARTIES.len()),
-            "one of the words that are listed above",
+            text_at(arguments, place),
+            COMMANDS,
         );
     };
     let kinds = kinds_of(verb);
-    match mistake_among(arguments, PARTIES.len() + 1, kinds) {
+    match mistake_among(arguments, number_at(place), kinds) {
         Some(mistake) => mistake,
-        None => Mistake::TooMany(text_at(
-            arguments,
-            PARTIES.len().saturating_add(1).saturating_add(kinds.len()),
-        )),
+        None => {
+            let offset = number_at(place).saturating_add(kinds.len());
+            Mistake::TooMany(number_at(offset), text_at(arguments, offset))
+        }
     }
 }
 
@@ -177,18 +195,19 @@ fn mistake_among<'a>(arguments: &'a [Text], first: usize, kinds: &[Kind]) -> Opt
     let mut offset = first;
     for kind in kinds {
         let (name, form) = kind.texts();
+        let number = number_at(offset);
         match arguments.get(offset) {
-            None => return Some(Mistake::Missing(name)),
+            None => return Some(Mistake::Missing(number, name)),
             Some(argument) => {
                 if !kind.has_form(argument) {
                     return Some(match *kind {
-                        Kind::Pass => Mistake::Secret(name, form),
-                        _ => Mistake::NoForm(name, text_at(arguments, offset), form),
+                        Kind::Pass => Mistake::Secret(number, name, form),
+                        _ => Mistake::NoForm(number, name, text_at(arguments, offset), form),
                     });
                 }
             }
         }
-        offset = offset.saturating_add(1);
+        offset = number;
     }
     None
 }

@@ -2,6 +2,7 @@ pub mod Views
 pub mod Exchange
 pub mod Saves
 pub mod Lines
+pub mod Waiting
 pub mod Sending
 pub mod Commands
 pub mod Run

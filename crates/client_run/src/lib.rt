@@ -18,7 +18,9 @@ mod sending;
 mod showing;
 mod status;
 mod stop;
+mod waiting;
 
 pub use client::{client_run, client_told, order_told};
 pub use ports::Ports;
 pub use stop::{CallStop, ClientStop, StoreOpenFault};
+pub use waiting::waiting_told;

@@ -24,7 +24,7 @@ const TIME: usize = 6;
 
 /// Appends a day of the years 1900 to 9999 as YYYYMMDD.
 #[tactic(auto, using(crate::proofs::Days::day_left, crate::proofs::Days::moment_size))]
-fn put_day(day: Day, out: &mut Vec<u8>) -> Result<(), OutOfMemory>
+pub(crate) fn put_day(day: Day, out: &mut Vec<u8>) -> Result<(), OutOfMemory>
     requires { IsDay day.0 }
     ensures { OnOk result (out.new.items ≡ out.old.items ++ rules.day_text day) }
 {

@@ -137,8 +137,15 @@ fn settles(rt: &impl Abort, keeper: &mut SqliteKeeper, wanted: Result<bool, Fail
 
 const SECOND: &str = "INSERT INTO records (number, bytes) VALUES (2, x'02')";
 
-// A file that was put in the place of the keeper's own has the record, as after an append that failed after its writing, and
-// lacks the first one.
+/// Writes a file of records that has the second one and lacks the first over the bytes of the keeper's own.
+fn landed(rt: &HostRuntime, abort: &impl Abort) {
+    run(rt, abort, "settled/other", &[RECORDS_TABLE, SECOND]);
+    let bytes = fs::read(rt, "settled/other").expect(abort, "the file");
+    fs::write(rt, "settled/records", bytes.as_slice()).expect(abort, "a file");
+    fs::remove_file(rt, "settled/records-wal").expect(abort, "no log");
+}
+
+// The keeper's own file has the record, as after an append that failed after its writing, and lacks the first one.
 #[test]
 fn settling_finds_what_stands_in_the_file(rt: HostRuntime) {
     let mut into = b"before".to_vec(rt.alloc()).expect(&rt, "room");
@@ -147,16 +154,28 @@ fn settling_finds_what_stands_in_the_file(rt: HostRuntime) {
     settles(&rt, &mut keeper, Ok(false), 1);
     drop(keeper);
     let mut keeper = stopped(&rt, &rt, "settled", "settled/records");
-    folder(&rt, &rt, "settled");
-    settles(&rt, &mut keeper, Err(Failed), 2);
-    assert!(rt; fs::metadata(&rt, "settled/records").is_err());
-    run(&rt, &rt, "settled/records", &[RECORDS_TABLE, SECOND]);
-    settles(&rt, &mut keeper, Ok(true), 2);
-    drop(keeper);
-    let mut keeper = opened(&rt, &rt, "settled/records", 2);
+    landed(&rt, &rt);
+    settles(&rt, &mut keeper, Ok(true), 1);
     fetches(&rt, &mut keeper, 1, &mut into, Err(FetchFault::Failed));
     fetches(&rt, &mut keeper, 2, &mut into, Ok(b"\x02"));
     keep(&rt, &mut keeper, b"three");
     drop(keeper);
     removed(&rt, &rt, "settled");
+}
+
+// A keeper whose path leads to no file, or to another, is lost: nothing is made there, and nothing is taken from there.
+#[test]
+fn a_file_in_the_place_of_another_is_not_taken(rt: HostRuntime) {
+    let mut keeper = stopped(&rt, &rt, "placed", "placed/records");
+    assert!(rt; !keeper.is_lost());
+    folder(&rt, &rt, "placed");
+    settles(&rt, &mut keeper, Err(Failed), 2);
+    assert!(rt; keeper.is_lost() && fs::metadata(&rt, "placed/records").is_err());
+    run(&rt, &rt, "placed/records", &[RECORDS_TABLE, SECOND]);
+    settles(&rt, &mut keeper, Err(Failed), 3);
+    drop(keeper);
+    let mut keeper = opened(&rt, &rt, "placed/records", 2);
+    same(&rt, keeper.settle(), Ok(false));
+    drop(keeper);
+    removed(&rt, &rt, "placed");
 }

@@ -2,6 +2,7 @@
 
 ghost use Rattle.std.specs.Prelude.{◌≡◌, false};
 
+use crate::environment::Environment;
 use crate::files::Files;
 use crate::keepers::ON_DISK;
 use crate::setup_file::SetupFile;
@@ -10,7 +11,8 @@ use bank_replay::reopen;
 use ofx_file::OfxPrinter;
 use ofx_ports::Keeper;
 use record_files::{
-    Binding, Cause, bind_beside, bind_sqlite, find_beside, find_sqlite, make_on_disk, open_on_disk,
+    Binding, Cause, bind_beside, bind_sqlite, cause_at, find_beside, find_sqlite, is_new_on_disk,
+    is_new_sqlite, make_on_disk, open_on_disk,
 };
 use sqlite_keeper::SqliteKeeper;
 use std::hash::RandomState;
@@ -25,14 +27,54 @@ pub enum Unbound {
 }
 
 /// Binds the records to the setup: new ones, and ones that are bound to none and open under it. Under
-/// a setup that has no form nothing is opened or made.
-pub fn bind_records(rt: &HostRuntime, files: Files<'_>, setup: &SetupFile) -> Result<(), Unbound> {
+/// a setup that has no form, and where there are no records and the environment says that there are, nothing is opened or made.
+pub fn bind_records(
+    rt: &HostRuntime,
+    files: Files<'_>,
+    setup: &SetupFile,
+    environment: Environment,
+) -> Result<(), Unbound> {
     if let Err(stop) = setup.setup(rt.alloc()) {
         return Err(Unbound::Setup(stop));
+    }
+    if environment.expects_records
+        && let Err(cause) = are_there(rt, files.records)
+    {
+        return Err(Unbound::Records(cause));
     }
     match bind_to(rt, files, setup) {
         Ok(()) => Ok(()),
         Err(cause) => Err(Unbound::Records(cause)),
+    }
+}
+
+/// Why there are no records where there have to be some.
+pub fn are_there(rt: &HostRuntime, records: Option<&str>) -> Result<(), Cause> {
+    match records {
+        None | Some("-") => Ok(()),
+        Some(path) => {
+            if !is_new_at(rt, path)? {
+                return Ok(());
+            }
+            let file = path.strip_prefix(ON_DISK).unwrap_or(path);
+            Err(cause_at(rt, file).unwrap_or(Cause::Expected))
+        }
+    }
+}
+
+/// Whether a run makes the file of the records.
+pub fn are_new(rt: &HostRuntime, records: Option<&str>) -> bool {
+    match records {
+        None | Some("-") => false,
+        Some(path) => is_new_at(rt, path).unwrap_or(false),
+    }
+}
+
+/// Whether the file of these records isn't there, or has nothing in it.
+fn is_new_at(rt: &HostRuntime, path: &str) -> Result<bool, Cause> {
+    match path.strip_prefix(ON_DISK) {
+        Some(file) => Ok(is_new_on_disk(rt, file)),
+        None => is_new_sqlite(rt, path),
     }
 }
 

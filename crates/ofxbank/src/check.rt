@@ -2,6 +2,8 @@
 
 ghost use Rattle.std.specs.Prelude.{◌≡◌, false};
 
+use crate::binding::are_there;
+use crate::environment::Environment;
 use crate::files::Files;
 use crate::keepers::ON_DISK;
 use crate::messages::{plain, report};
@@ -23,11 +25,11 @@ use std::io;
 type End = (Told, Option<Cause>);
 
 /// Checks the setup and the records that the arguments name, and answers the status.
-pub fn checked(rt: &HostRuntime, files: Files<'_>) -> u8 {
+pub fn checked(rt: &HostRuntime, files: Files<'_>, environment: Environment) -> u8 {
     let Ok(setup) = SetupFile::read(rt, files.setup) else {
         return report(rt, plain(7));
     };
-    let (end, cause) = checked_setup(rt, files, &setup);
+    let (end, cause) = checked_setup(rt, files, &setup, environment);
     let status = report(rt, end);
     report_why(rt, end, Command::Check, files, &setup, cause);
     report_open_files(rt, files, status == 0);
@@ -35,7 +37,12 @@ pub fn checked(rt: &HostRuntime, files: Files<'_>) -> u8 {
 }
 
 /// Checks the setup, and then the records, where there are any.
-fn checked_setup(rt: &HostRuntime, files: Files<'_>, file: &SetupFile) -> End {
+fn checked_setup(
+    rt: &HostRuntime,
+    files: Files<'_>,
+    file: &SetupFile,
+    environment: Environment,
+) -> End {
     let setup = match file.setup(rt.alloc()) {
         Ok(setup) => setup,
         Err(stop) => return (report_of_end(Err(stop)), None),
@@ -44,6 +51,11 @@ fn checked_setup(rt: &HostRuntime, files: Files<'_>, file: &SetupFile) -> End {
         return (plain(6), None);
     }
     drop(setup);
+    if environment.expects_records
+        && let Err(cause) = are_there(rt, files.records)
+    {
+        return (plain(8), Some(cause));
+    }
     match files.records {
         None => (plain(0), None),
         Some("-") => ended(rt.println("records -: a run keeps none")),

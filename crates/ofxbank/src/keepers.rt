@@ -3,6 +3,7 @@
 ghost use Rattle.std.specs.Prelude.{◌≡◌, false, None};
 
 use ofx_ports::{Failed, FetchFault, Keeper, PutFault};
+use run_guards::Losable;
 
 /// The prefix of a word that names a file of records on a disk.
 pub const ON_DISK: &str = "disk:";
@@ -61,5 +62,12 @@ impl Keeper for Unopened {
 
     fn faults(&self) -> u64 {
         self.faults
+    }
+}
+
+/// Nothing is ever kept in a file that wasn't opened.
+impl Losable for Unopened {
+    fn is_file_lost(&self) -> bool {
+        false
     }
 }

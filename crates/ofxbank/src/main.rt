@@ -5,9 +5,12 @@
 mod binding;
 mod check;
 mod command_line;
+mod end;
+mod environment;
 mod files;
 mod keepers;
 mod messages;
+mod records_age;
 mod run;
 mod serve;
 mod setup_file;
@@ -16,6 +19,7 @@ mod usage;
 mod why;
 
 use crate::command_line::{Request, VERSION_OPTIONS, request_of};
+use crate::environment::Environment;
 use crate::files::Files;
 use crate::messages::{plain, report};
 use crate::run::run;
@@ -40,7 +44,10 @@ fn done<R: Threads + Wait + Sync>(threads: &R, rt: &HostRuntime, arguments: &[Te
     match request_of(arguments) {
         Request::Help(topic) => report(rt, helped(rt, topic)),
         Request::Version => report(rt, versioned(rt)),
-        Request::Run(command) => run(threads, rt, command, Files::of(arguments)),
+        Request::Run(command) => match Environment::read(rt) {
+            Ok(environment) => run(threads, rt, command, Files::of(arguments), environment),
+            Err(bad) => report_usage(rt, &bad),
+        },
         Request::Usage(mistake) => report_usage(rt, &mistake),
     }
 }

@@ -54,6 +54,17 @@ fn report_records(rt: &impl Eprint, records: &str, count: u64) -> io::Result<()>
     }
 }
 
+/// Prints on the error stream that fewer files may be open than so many workers need.
+pub fn report_too_few_files(rt: &impl Eprint, most: u64, workers: u32, needed: u64) {
+    let _ = report_files(rt, most, workers, needed);
+}
+
+fn report_files(rt: &impl Eprint, most: u64, workers: u32, needed: u64) -> io::Result<()> {
+    eprintln!(rt;
+        "warning: {most} files may be open, and {workers} workers can need {needed}; raise the limit (ulimit -n), or take fewer workers"
+    )
+}
+
 /// Prints on the error stream how many links were served.
 pub fn report_served(rt: &impl Eprint, links: u64) {
     let _ = report_links(rt, links);

@@ -2,20 +2,25 @@
 
 ghost use Rattle.std.specs.Prelude.{◌≡◌, false};
 
-use crate::binding::{Unbound, bind_records};
+use crate::binding::{Unbound, are_new, bind_records};
 use crate::check::checked;
+use crate::end::End;
+use crate::environment::Environment;
 use crate::files::Files;
 use crate::keepers::{ON_DISK, Unopened};
 use crate::messages::{plain, report};
+use crate::records_age::behind;
 use crate::serve::{Service, served};
 use crate::setup_file::SetupFile;
-use crate::why::{report_open_files, report_port, report_why};
+use crate::why::{report_new_records, report_open_files, report_port, report_why};
 use bank_arguments::Command;
 use bank_commands::command_told;
 use bank_opening::report_of_end;
-use ofx_ports::{Keeper, MemKeeper, MemSource, ReaderSource, Source, SystemClock, WriterSink};
+use machine_adapters::error_stream_has_room;
+use ofx_ports::{Keeper, MemKeeper, MemSource, ReaderSource, Source, WriterSink};
 use ofx_types::Told;
-use record_files::{Cause, on_disk};
+use record_files::on_disk;
+use run_guards::SteadyClock;
 use sqlite_keeper::SqliteKeeper;
 use std::hash::RandomState;
 use std::io;
@@ -31,12 +36,13 @@ pub fn run<R: Threads + Wait + Sync>(
     rt: &HostRuntime,
     command: Command<'_>,
     files: Files<'_>,
+    environment: Environment,
 ) -> u8 {
     match command {
-        Command::Check => checked(rt, files),
+        Command::Check => checked(rt, files, environment),
         Command::Rehearse(_) => report(rt, rehearsed(*rt, command)),
         Command::Answer(_) | Command::Due | Command::Mail(_) | Command::Serve(_) => {
-            run_bound(threads, rt, command, files)
+            run_bound(threads, rt, command, files, environment)
         }
     }
 }
@@ -47,66 +53,131 @@ fn run_bound<R: Threads + Wait + Sync>(
     rt: &HostRuntime,
     command: Command<'_>,
     files: Files<'_>,
+    environment: Environment,
 ) -> u8 {
     let Ok(setup) = SetupFile::read(rt, files.setup) else {
         return report(rt, plain(7));
     };
-    let bound = bind_records(rt, files, &setup);
-    let (end, port) = match (command, &bound) {
+    let is_new = are_new(rt, files.records);
+    let bound = bind_records(rt, files, &setup, environment);
+    let end = match (command, bound) {
         (Command::Serve(plan), Ok(())) => {
-            let setup = &setup;
-            served(threads, rt, Service { plan, files, setup })
+            let service = Service {
+                plan,
+                files,
+                setup: &setup,
+                environment,
+            };
+            served(threads, rt, service)
         }
-        (Command::Serve(_), Err(unbound)) => (unserved(unbound), None),
-        (_, Ok(())) => (answered(*rt, command, files, &setup), None),
-        (_, Err(_)) => (run_over(*rt, command, &setup, &mut Unopened::new()), None),
+        (Command::Serve(_), Err(unbound)) => unserved(unbound),
+        (_, Ok(())) => answered(rt, command, files, &setup, environment),
+        (_, Err(unbound)) => unanswered(rt, command, &setup, unbound),
     };
-    let status = report(rt, end);
+    let End { told, port, cause } = end;
+    if let Command::Serve(_) = command
+        && !error_stream_has_room()
+    {
+        // Nobody reads the error stream, and the end isn't to wait for that.
+        return told.status.0;
+    }
+    let status = report(rt, told);
     match (command, port) {
         (Command::Serve(plan), Some(fault)) => report_port(rt, plan.port, fault),
-        _ => report_why(rt, end, command, files, &setup, cause_of(bound)),
+        _ => report_why(rt, told, command, files, &setup, cause),
     }
     match command {
         // A server has said it when it began to listen.
         Command::Serve(_) => {}
+        Command::Due | Command::Mail(_) if status == 0 && is_new => {
+            report_new_records(rt, files);
+            report_open_files(rt, files, false);
+        }
         _ => report_open_files(rt, files, status == 0),
     }
     status
 }
 
 /// The end of a server whose records aren't opened.
-fn unserved(unbound: &Unbound) -> Told {
+fn unserved(unbound: Unbound) -> End {
     match unbound {
-        Unbound::Setup(stop) => report_of_end(Err(*stop)),
-        Unbound::Records(_) => plain(8),
+        Unbound::Setup(stop) => End::of(report_of_end(Err(stop))),
+        Unbound::Records(cause) => End::by_records(8, cause),
     }
 }
 
-/// Why the records can't be opened, where it is known.
-fn cause_of(bound: Result<(), Unbound>) -> Option<Cause> {
-    match bound {
-        Err(Unbound::Records(cause)) => Some(cause),
-        _ => None,
+/// The end of another run whose records aren't opened: that over a keeper that refuses every call.
+fn unanswered(rt: &HostRuntime, command: Command<'_>, setup: &SetupFile, unbound: Unbound) -> End {
+    let told = told_over(rt, command, setup, &mut Unopened::new());
+    match unbound {
+        Unbound::Setup(_) => End::of(told),
+        Unbound::Records(cause) => End {
+            told,
+            port: None,
+            cause: Some(cause),
+        },
     }
 }
 
 /// The end of a run over its records: those of a file, or with `-` in memory.
-fn answered(rt: HostRuntime, command: Command<'_>, files: Files<'_>, setup: &SetupFile) -> Told {
+fn answered(
+    rt: &HostRuntime,
+    command: Command<'_>,
+    files: Files<'_>,
+    setup: &SetupFile,
+    environment: Environment,
+) -> End {
     match files.records {
-        Some("-") => run_over(rt, command, setup, &mut MemKeeper::new(rt.alloc())),
+        Some("-") => End::of(told_over(rt, command, setup, &mut MemKeeper::new(rt.alloc()))),
         Some(path) => match path.strip_prefix(ON_DISK) {
-            Some(file) => over_disk(rt, command, setup, file),
-            None => run_over(rt, command, setup, &mut SqliteKeeper::open(&rt, path)),
+            Some(file) => over_disk(rt, command, setup, file, environment),
+            None => run_over(
+                rt,
+                command,
+                setup,
+                &mut SqliteKeeper::open(rt, path),
+                environment,
+            ),
         },
-        None => plain(2),
+        None => End::plain(2),
     }
 }
 
 /// The end of a run over the records in a file on a disk. Where it can't be opened, each call of the keeper fails.
-fn over_disk(rt: HostRuntime, command: Command<'_>, setup: &SetupFile, path: &str) -> Told {
-    match on_disk(&rt, path) {
-        Ok(mut keeper) => run_over(rt, command, setup, &mut keeper),
-        Err(_) => run_over(rt, command, setup, &mut Unopened::new()),
+fn over_disk(
+    rt: &HostRuntime,
+    command: Command<'_>,
+    setup: &SetupFile,
+    path: &str,
+    environment: Environment,
+) -> End {
+    match on_disk(rt, path) {
+        Ok(mut keeper) => run_over(rt, command, setup, &mut keeper, environment),
+        Err(_) => End::of(told_over(rt, command, setup, &mut Unopened::new())),
+    }
+}
+
+/// The end of a run over records in a file, which doesn't begin where they lie too far behind the clock that it reads.
+fn run_over<K: Keeper>(
+    rt: &HostRuntime,
+    command: Command<'_>,
+    setup: &SetupFile,
+    keeper: &mut K,
+    environment: Environment,
+) -> End
+    requires { K.unsettled keeper.old ≡ false }
+{
+    if let Some(cause) = behind(rt, keeper, days_asked(command, environment)) {
+        return End::by_records(8, cause);
+    }
+    End::of(told_over(rt, command, setup, keeper))
+}
+
+/// How many days the records may lie behind the clock. None where a command doesn't read it.
+fn days_asked(command: Command<'_>, environment: Environment) -> Option<u64> {
+    match command {
+        Command::Answer(arguments) if arguments.at.is_some() => None,
+        _ => environment.max_days,
     }
 }
 
@@ -119,8 +190,8 @@ fn rehearsed(rt: HostRuntime, command: Command<'_>) -> Told {
 }
 
 /// The end of a run over the setup that was read.
-fn run_over<K: Keeper>(
-    rt: HostRuntime,
+fn told_over<K: Keeper>(
+    rt: &HostRuntime,
     command: Command<'_>,
     setup: &SetupFile,
     keeper: &mut K,
@@ -128,7 +199,7 @@ fn run_over<K: Keeper>(
     requires { K.unsettled keeper.old ≡ false }
 {
     match setup.source(rt.alloc()) {
-        Ok(mut setup) => reported_over(rt, command, &mut setup, keeper),
+        Ok(mut setup) => reported_over(*rt, command, &mut setup, keeper),
         Err(_) => plain(7),
     }
 }
@@ -149,7 +220,7 @@ fn reported_over<A: Source, K: Keeper>(
     let alloc = rt.alloc();
     let mut input = ReaderSource::new(rt.stdin());
     let mut out = WriterSink::new(io::writer(&rt));
-    let mut clock = SystemClock::new(rt);
+    let mut clock = SteadyClock::new(&rt);
     command_told(
         alloc, keys, command, setup, &mut input, &mut out, keeper, &mut clock,
     )

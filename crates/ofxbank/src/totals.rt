@@ -90,7 +90,7 @@ fn sum_of(accounts: &[Account]) -> i64 {
 }
 
 /// The greatest moment of a record, in seconds since 1970. The first of all where there is no record.
-fn last_moment<K: Keeper>(alloc: Global, keeper: &mut K) -> Result<i64, Stop>
+pub fn last_moment<K: Keeper>(alloc: Global, keeper: &mut K) -> Result<i64, Stop>
     requires { K.unsettled keeper.old ≡ false }
     ensures settled { K.unsettled keeper.new ≡ false }
 {

@@ -1,8 +1,8 @@
 //! What is reported to people after the fixed first line of an end: where, why, and what to do.
 
+use crate::end::PortFault;
 use crate::files::Files;
 use crate::keepers::ON_DISK;
-use crate::serve::PortFault;
 use crate::setup_file::SetupFile;
 use bank_arguments::Command;
 use ofx_types::{Note, Told};
@@ -11,24 +11,25 @@ use record_files::{
 };
 use std::io;
 
-/// Prints on the error stream where and why a run ended that has printed its first line. `unopened` is why its records weren't
-/// opened, where they weren't.
+/// Prints on the error stream where and why a run ended that has printed its first line. `cause` is why its records weren't
+/// opened, or were kept no more.
 pub fn report_why(
     rt: &HostRuntime,
     end: Told,
     command: Command<'_>,
     files: Files<'_>,
     setup: &SetupFile,
-    unopened: Option<Cause>,
+    cause: Option<Cause>,
 ) {
     let _ = match end.status.0 {
         3 => report_setup(rt, end.note, files.setup, setup),
         4 => report_input(rt, command),
+        5 if cause.is_some() => report_records(rt, files, cause),
         5 => report_read(rt, command, files.setup, setup),
         6 => rt.eprintln(
             "standard output: it can't be written; the disk is full, or its reader is gone",
         ),
-        8 => report_records(rt, files, unopened),
+        8 => report_records(rt, files, cause),
         9 => report_record(rt, end.note, files.records_word()),
         10 => report_letter(rt, end.note, command, files.setup),
         _ => Ok(()),
@@ -88,7 +89,7 @@ fn report_read(
         Command::Serve(plan) => {
             let port = plan.port;
             eprintln!(rt;
-                "port {port}: no more connections can be taken; too many files may be open"
+                "port {port}: no more connections can be taken; its listener has failed, see the log above"
             )
         }
         _ => rt.eprintln("standard input: it can't be read; it may be a folder, or closed"),
@@ -111,9 +112,9 @@ pub fn report_port(rt: &HostRuntime, port: u16, fault: PortFault) {
 }
 
 /// Tells why the records failed.
-fn report_records(rt: &HostRuntime, files: Files<'_>, unopened: Option<Cause>) -> io::Result<()> {
+fn report_records(rt: &HostRuntime, files: Files<'_>, cause: Option<Cause>) -> io::Result<()> {
     let path = files.records_word();
-    match unopened {
+    match cause {
         Some(cause) => report_cause(rt, path, Some(cause)),
         None => report_cause(rt, path, stopped_cause(rt, path)),
     }
@@ -154,6 +155,14 @@ fn report_record(rt: &HostRuntime, note: Note, path: &str) -> io::Result<()> {
         }
         _ => Ok(()),
     }
+}
+
+/// Says on the error stream, behind an empty line, that a run made the file of its records.
+pub fn report_new_records(rt: &HostRuntime, files: Files<'_>) {
+    let path = files.records_word();
+    let _ = eprintln!(rt;
+        "\nrecords {path}, new: there were none; if there should be, the path is wrong, or a disk isn't mounted"
+    );
 }
 
 /// Says on the error stream where the setup or the records can be read by others. After a run that reported nothing an empty

@@ -7,7 +7,10 @@ use ofx_ports::{FileStore, MemStore, ReaderSource, StoreKeeper, WriterSink};
 use ofx_types::{OutOfMemory, Text, Told};
 use program_arguments::named;
 use register_run::register_told;
-use std::io;
+use std::{fmt, io};
+
+/// The offset of the first word that an import doesn't have.
+const MORE: usize = 2;
 
 /// Adds downloaded files to the register that the second argument names, and reports how that ended.
 pub fn import(rt: HostRuntime, arguments: &[Text]) -> Told {
@@ -15,9 +18,23 @@ pub fn import(rt: HostRuntime, arguments: &[Text]) -> Told {
     report(&rt, end);
     let _ = report_advice(&rt, end.status.0, named(arguments, STORE).unwrap_or("?"));
     if end.status.0 == 2 {
-        report_usage(&rt, &"import takes one argument: the file of the register");
+        report_usage(&rt, &BadImport(arguments));
     }
     end
+}
+
+/// What is wrong with the words of an import.
+#[derive(Clone, Copy)]
+struct BadImport<'a>(&'a [Text]);
+
+impl fmt::Display for BadImport<'_> {
+    fn fmt<W: fmt::Write>(&self, f: &mut fmt::Formatter<W>) -> fmt::Result {
+        let arguments = self.0;
+        match named(arguments, MORE) {
+            Some(more) => write!(f, "word 3, '{more}', is one too many"),
+            None => f.write_str("word 2, STORE, is missing: the file of the register"),
+        }
+    }
 }
 
 /// The end of an import. A store is opened only where an argument names one, and `--help` names none.

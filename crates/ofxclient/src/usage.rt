@@ -17,7 +17,7 @@ const PARTIES: [(&str, &str); 6] = [
     ("PORT", "where the bank answers at 127.0.0.1, 0 to 65535"),
     (
         "STORE",
-        "the file in which the client is kept, made where it isn't there; - is in memory, for this run alone",
+        "the file in which the client is kept, made where it isn't there, and locked during a run; - is in memory, for this run alone",
     ),
     (
         "CLIENT",
@@ -82,12 +82,21 @@ Words:
   ID       of a row that show prints
 
 Status: 0 all done, 2 usage or another client's store, 4 the input has no frame,
-5 read failed, 6 write failed, 7 no memory, 8 store failed, 11 HTTP code, 12 bad
-reply, 13 a reply to another file, 14 signon refused, 15 the store has no form,
-16 bad reply head, 17 the reply was cut, 18 no such row";
+5 read failed, 6 write failed, 7 no memory, 8 store failed or locked by another
+run, 11 HTTP code, 12 bad reply, 13 a reply to another file, 14 signon refused,
+15 the store has no form, 16 bad reply head, 17 the reply was cut, 18 no such row";
 
-/// What is printed for `--help`, and after the line `usage`.
+/// What is printed for `--help`.
 pub fn help_text(alloc: Global) -> Result<String, AllocError> {
+    command_of(alloc)?.render_help()
+}
+
+/// What is printed after the line `usage`: the forms of the program's commands.
+pub fn usage_text(alloc: Global) -> Result<String, AllocError> {
+    command_of(alloc)?.render_usage()
+}
+
+fn command_of(alloc: Global) -> Result<Command<'static>, AllocError> {
     let mut command = Command::new(alloc, "ofxclient")
         .version(VERSION)
         .about(ABOUT)
@@ -102,5 +111,5 @@ pub fn help_text(alloc: Global) -> Result<String, AllocError> {
     for (name, help) in COMMANDS {
         command = command.subcommand(Command::new(alloc, name).about(help))?;
     }
-    command.render_help()
+    Ok(command)
 }

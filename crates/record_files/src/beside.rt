@@ -38,12 +38,17 @@ pub fn bind_beside(rt: &HostRuntime, path: &str, lines: &str) -> Result<(), Caus
     }
 }
 
-/// Writes the file under another name, and then gives it its own.
+/// Writes the file under another name, and then gives it its own. What has that other name is removed first: a draft that an
+/// earlier run left, or a link, which isn't followed.
 fn written(rt: &HostRuntime, path: &str, lines: &str) -> io::Result<()> {
     let beside = beside(rt, path)?;
     let draft = format!(in rt.alloc(); "{path}.setup.new")?;
+    match fs::remove_file(rt, draft.as_str()) {
+        Err(error) if !matches!(error.kind(), ErrorKind::NotFound) => return Err(error),
+        _ => {}
+    }
     let mut options = OpenOptions::new();
-    options.write(true).create(true).truncate(true).mode(MODE);
+    options.write(true).create_new(true).mode(MODE);
     let mut file = options.open(rt, draft.as_str())?;
     file.write_all(lines.as_bytes())?;
     file.sync_all()?;

@@ -51,6 +51,12 @@ pub enum Cause {
     Full,
     /// A call of the disk failed.
     Failed,
+    /// A sync failed, or the file lost its name, so that nothing more may be kept in it.
+    Lost,
+    /// There are none, or an empty file, and there have to be some.
+    Expected,
+    /// They end so many days before the machine's clock, which is more than they may.
+    Behind(u64),
     /// They began with another setup: the number of the first line that differs, and that line as it was.
     OtherSetup(u64, String),
     /// What the system says.
@@ -65,12 +71,12 @@ impl Drop for Cause {
         match self {
             Cause::OtherSetup(_line, _was) => {}
             Cause::System(_error) => {}
-            Cause::Cut(_) | Cause::Gap(_) => {}
+            Cause::Cut(_) | Cause::Gap(_) | Cause::Behind(_) => {}
             Cause::NoFile | Cause::NoPath | Cause::NoFolder | Cause::Folder | Cause::NotPlain => {}
             Cause::SecondName | Cause::Journal | Cause::NoRights | Cause::ReadOnly => {}
             Cause::NoRightsBeside => {}
             Cause::Held | Cause::NoDatabase | Cause::OtherDatabase | Cause::NoMark => {}
-            Cause::Full | Cause::Failed | Cause::NoMemory => {}
+            Cause::Full | Cause::Failed | Cause::Lost | Cause::Expected | Cause::NoMemory => {}
         }
     }
 }
@@ -81,6 +87,7 @@ impl fmt::Display for Cause {
             Cause::OtherSetup(line, was) => report_other_setup(f, *line, was.as_str()),
             Cause::Gap(number) => write!(f, "record {number} is missing; restore a copy"),
             Cause::Cut(number) => write!(f, "the file ends within record {number}; restore a copy"),
+            Cause::Behind(days) => report_behind(f, *days),
             Cause::System(error) => write!(f, "{error}"),
             other => f.write_str(words_of(other)),
         }
@@ -105,6 +112,15 @@ fn report_other_setup<W: fmt::Write>(
     )
 }
 
+/// What is said of records that end too many days before the clock.
+fn report_behind<W: fmt::Write>(f: &mut fmt::Formatter<W>, days: u64) -> fmt::Result {
+    let enough = days.saturating_add(1);
+    write!(
+        f,
+        "they end {days} days before the machine's clock, more than OFXBANK_MAX_DAYS allows; set the clock, or, where it is right, start with OFXBANK_MAX_DAYS={enough}"
+    )
+}
+
 /// What is said of a cause without numbers.
 fn words_of(cause: &Cause) -> &'static str {
     match cause {
@@ -126,8 +142,16 @@ fn words_of(cause: &Cause) -> &'static str {
         Cause::NoMark => "it is no file of records made by disk:PATH",
         Cause::Full => "the disk is full",
         Cause::Failed => "the disk failed; look into the system's log",
+        Cause::Lost => {
+            "a sync failed, or the file was renamed, removed or replaced; nothing more is kept in it: look into the system's log"
+        }
+        Cause::Expected => {
+            "there is no such file, or it is empty, and OFXBANK_EXPECT_RECORDS is 1: mount its disk or restore a copy; \
+             for a new bank run once without that word"
+        }
         Cause::NoMemory => "memory was refused",
-        Cause::OtherSetup(..) | Cause::Gap(_) | Cause::Cut(_) | Cause::System(_) => "",
+        Cause::OtherSetup(..) | Cause::Gap(_) | Cause::Cut(_) => "",
+        Cause::Behind(_) | Cause::System(_) => "",
     }
 }
 

@@ -1,12 +1,12 @@
 -- What the log's adapters wrap.
-use Rattle.ofx_ports.specs.declared.adapters.tcp_door.TcpDoor.{TcpDoor}
+use Rattle.std.specs.Prelude.{ℕ}
 use Rattle.serve_log.specs.declared.door.LoggedDoor.{LoggedDoor}
 use Rattle.serve_log.specs.declared.keeper.LoggedKeeper.{LoggedKeeper}
 use Rattle.serve_log.specs.declared.link.LoggedLink.{LoggedLink}
 
--- the doorway whose links are watched
-abbrev pub door_within : {T C R : Type 0} → LoggedDoor T C R → TcpDoor T C
-door_within logged = logged.door
+-- how often no link will come in any more
+abbrev pub door_faults : {T C R : Type 0} → LoggedDoor T C R → ℕ
+door_faults logged = logged.faults
 
 -- the link that is watched
 abbrev pub link_within : {L R : Type 0} → LoggedLink L R → L

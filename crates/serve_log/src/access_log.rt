@@ -2,11 +2,13 @@
 
 use crate::level::Level;
 use crate::stamp::Stamp;
+use machine_adapters::error_stream_has_room;
 use std::fmt::Display;
-use std::rt;
-use std::time::{Instant, SystemTime, UNIX_EPOCH};
+use std::time::{Duration, Instant, SystemTime, UNIX_EPOCH};
+use std::{rt, thread};
 
-/// The error stream of a runtime, with its clock. A line that can't be written is lost, and no error is reported.
+/// The error stream of a runtime, with its clock. A line that can't be written at once is dropped, so that nobody waits for who
+/// reads the stream, and the next line that is written says how many were.
 #[derive(Clone, Copy)]
 pub struct AccessLog<R: Copy> {
     rt: R,
@@ -40,8 +42,24 @@ impl<R: Eprint + rt::Clock + Copy> AccessLog<R> {
         Instant::now(&self.rt).ok()
     }
 
-    /// Writes a line.
-    pub(crate) fn write_line<D: Display + Drop>(&self, line: D) {
-        let _ = self.rt.eprintln(line);
+    /// Lets this time pass.
+    pub(crate) fn pause(&self, time: Duration) {
+        thread::sleep(&self.rt, time);
+    }
+
+    /// Writes a line, after which so many were dropped before it, and answers how many are now.
+    pub(crate) fn write_line<D: Display + Drop>(&self, line: D, dropped: u64) -> u64 {
+        if !error_stream_has_room() {
+            return dropped.saturating_add(1);
+        }
+        let written = if dropped == 0 {
+            self.rt.eprintln(line)
+        } else {
+            eprintln!(self.rt; "{line} dropped={dropped}")
+        };
+        match written {
+            Ok(()) => 0,
+            Err(_) => dropped.saturating_add(1),
+        }
     }
 }

@@ -26,6 +26,8 @@ use std::{fmt, rt};
 pub struct LoggedKeeper<K: Keeper, R: Copy> {
     keeper: K,
     journal: AccessLog<R>,
+    // how many of its lines were dropped since the last one that was written
+    dropped: u64,
 }
 
 /// The line of a call that failed.
@@ -51,17 +53,24 @@ impl<K: Keeper, R: Eprint + rt::Clock + Copy> LoggedKeeper<K, R> {
     pub fn over(keeper: K, journal: AccessLog<R>) -> LoggedKeeper<K, R>
         ensures { keeper_within result ≡ keeper }
     {
-        LoggedKeeper { keeper, journal }
+        LoggedKeeper {
+            keeper,
+            journal,
+            dropped: 0,
+        }
     }
 
     /// Tells that a call failed.
-    fn write_line(&self, call: &'static str) {
+    fn write_line(&mut self, call: &'static str)
+        ensures { keeper_within self.new ≡ keeper_within self.old }
+    {
         if self.journal.level().is_on() {
-            self.journal.write_line(FaultEntry {
+            let entry = FaultEntry {
                 stamp: self.journal.stamp(),
                 call,
                 faults: self.keeper.faults(),
-            });
+            };
+            self.dropped = self.journal.write_line(entry, self.dropped);
         }
     }
 }

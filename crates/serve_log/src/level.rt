@@ -5,20 +5,23 @@
 pub enum Level {
     /// Nothing.
     Off,
-    /// Failed signons, and faults of the bank: of the keeper of its records, and want of memory.
+    /// Failed signons, and faults of the bank: of the keeper of its records, of its doorways, and want of memory.
     Warn,
     /// Each exchange.
     Info,
 }
 
 impl Level {
-    /// The level of this word: `off`, `warn` or `info`.
+    /// The level of this word: `off`, `warn` or `info`, in letters of any case.
     pub fn named(word: &str) -> Option<Level> {
-        match word {
-            "off" => Some(Level::Off),
-            "warn" => Some(Level::Warn),
-            "info" => Some(Level::Info),
-            _ => None,
+        if word.eq_ignore_ascii_case("off") {
+            Some(Level::Off)
+        } else if word.eq_ignore_ascii_case("warn") {
+            Some(Level::Warn)
+        } else if word.eq_ignore_ascii_case("info") {
+            Some(Level::Info)
+        } else {
+            None
         }
     }
 

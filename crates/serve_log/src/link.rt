@@ -18,19 +18,25 @@ pub struct LoggedLink<L, R: Copy> {
 }
 
 impl<L, R: Copy> LoggedLink<L, R> {
-    /// The link of this number among those of a worker, which has a number too.
+    /// The link of this number among those of a worker, which has a number too, and before it so many lines that were dropped.
     pub fn over(
         link: L,
         alloc: Global,
         journal: AccessLog<R>,
         worker: u32,
         number: u64,
+        dropped: u64,
     ) -> LoggedLink<L, R> {
         LoggedLink {
             link,
             journal,
-            watch: Watch::new(alloc, worker, number),
+            watch: Watch::new(alloc, worker, number, dropped),
         }
+    }
+
+    /// How many lines of its worker were dropped since the last one that was written.
+    pub fn dropped(&self) -> u64 {
+        self.watch.dropped
     }
 
     /// The link within.

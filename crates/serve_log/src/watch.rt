@@ -26,11 +26,13 @@ pub(crate) struct Watch {
     /// The reply that is being written, and how much of it is left.
     reply: Option<ReplyNote>,
     left: u64,
+    /// How many lines of the worker were dropped since the last one that was written.
+    pub(crate) dropped: u64,
 }
 
 impl Watch {
-    /// Nothing was seen of this link.
-    pub(crate) fn new(alloc: Global, worker: u32, link: u64) -> Watch {
+    /// Nothing was seen of this link, before which so many lines of its worker were dropped.
+    pub(crate) fn new(alloc: Global, worker: u32, link: u64, dropped: u64) -> Watch {
         Watch {
             worker,
             link,
@@ -40,6 +42,7 @@ impl Watch {
             at: None,
             reply: None,
             left: 0,
+            dropped,
         }
     }
 
@@ -94,7 +97,10 @@ impl Watch {
     fn end<R: Eprint + rt::Clock + Copy>(&mut self, journal: &AccessLog<R>) {
         if let Some(note) = self.reply {
             if journal.level().covers(note.is_warning()) {
-                journal.write_line(self.entry(note, journal.stamp(), journal.instant()));
+                self.dropped = journal.write_line(
+                    self.entry(note, journal.stamp(), journal.instant()),
+                    self.dropped,
+                );
             }
         }
         self.is_clear = self.is_clear && body_of(&self.come).is_some();

@@ -1,9 +1,12 @@
 //! The bank as a server: how it opens, and its connections and workers, over links and doorways in memory and over a socket.
 
+mod at_random;
 mod both;
 mod copies;
 mod crowd;
+mod holding;
 mod sockets;
+mod turns;
 
 ghost use Rattle.std.specs.Prelude.{◌≡◌, false, is_some};
 ghost use Rattle.bank_shared.specs.Holds.{IsPassOf};
@@ -83,6 +86,7 @@ fn connected<N: BankName, R: Abort + Wait>(
     requires opening { opened.state ≡ N.opening }
     requires first { opened.opened ≡ N.first }
     requires board { opened.board ≡ N.board }
+    requires tables { opened.tables ≡ N.tables }
 {
     let (bank, mut pass) = Bank::<N, _, _>::begin(opened);
     connected_by(rt, alloc, &bank, &mut pass, link)

@@ -1,4 +1,4 @@
-//! Callers of a bank, who take turns at its lock.
+//! Callers of a bank, who take turns at it.
 
 ghost use Rattle.std.specs.Prelude.{◌≡◌};
 ghost use Rattle.ofx_types.specs.Calendar.{IsMoment};
@@ -51,7 +51,7 @@ pub fn asked<N: BankName, R: Abort + Wait>(
 }
 
 /// What a caller of the bank gets when due work is looked for.
-fn advanced<N: BankName, R: Abort + Wait>(
+pub fn advanced<N: BankName, R: Abort + Wait>(
     rt: &R,
     alloc: Global,
     bank: &Bank<N, MemKeeper, OfxPrinter>,
@@ -75,6 +75,7 @@ fn reported_by_turns<N: BankName, R: Abort + Wait>(
     requires opening { opened.state ≡ N.opening }
     requires first { opened.opened ≡ N.first }
     requires board { opened.board ≡ N.board }
+    requires tables { opened.tables ≡ N.tables }
 {
     let (bank, mut first) = Bank::<N, _, _>::begin(opened);
     let mut second = bank.door(&mut first);
@@ -149,6 +150,7 @@ fn reported_while_pending<N: BankName, R: Abort + Wait>(
     requires opening { opened.state ≡ N.opening }
     requires first { opened.opened ≡ N.first }
     requires board { opened.board ≡ N.board }
+    requires tables { opened.tables ≡ N.tables }
 {
     let (bank, mut pass) = Bank::<N, _, _>::begin(opened);
     let file = request_with(rt, alloc, &[TRANSFER]);

@@ -58,6 +58,7 @@ fn reported_of_runs<N: BankName, R: Abort + Wait>(
     requires opening { opened.state ≡ N.opening }
     requires first { opened.opened ≡ N.first }
     requires board { opened.board ≡ N.board }
+    requires tables { opened.tables ≡ N.tables }
 {
     let (bank, mut pass) = Bank::<N, _, _>::begin(opened);
     runs_at(rt, alloc, &bank, &mut pass)

@@ -1,4 +1,4 @@
-//! Tests of a bank that many callers share by public calls: its journal over keepers whose calls fail, its callers by turns, and
+//! Tests of a bank that many callers share by public calls: its calls over keepers that fail, its callers by turns, and
 //! its due work.
 #![tactic(auto)]
 
@@ -7,10 +7,12 @@ mod callers;
 #[cfg(test)]
 mod due;
 #[cfg(test)]
-mod locked_banks;
+mod failures;
 #[cfg(test)]
 mod same;
 #[cfg(test)]
 mod sample;
 #[cfg(test)]
 mod script;
+#[cfg(test)]
+mod two_users;

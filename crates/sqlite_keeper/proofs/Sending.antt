@@ -11,6 +11,7 @@ use Rattle.sqlite.proofs.statement.Statement.TheSendSync as statement
 use Rattle.sqlite.specs.contracts.Unknown as unknown
 use Rattle.sqlite.below.sqlite_store.proofs.store.FileStore.TheSendSync as store
 use Rattle.sqlite.below.sqlite_store.specs.contracts.store.FileStoreStore.TheImpl as store_calls
+use Rattle.sqlite.below.sqlite_disk.proofs.files.Files.TheSendSync as pair
 use Rattle.sqlite.below.sqlite_disk.proofs.modelled.Modelled.TheSendSync as disk
 use Rattle.sqlite.below.sqlite_disk.specs.contracts.modelled.Modelled as modelled
 use Rattle.sqlite.below.sqlite_disk.specs.contracts.modelled.ModelledDisk.TheImpl as disk_calls
@@ -19,6 +20,7 @@ use Rattle.sqlite.below.sqlite_std_file.specs.contracts.host.Host as host
 use Rattle.sqlite.below.sqlite_std_file.specs.contracts.host.HostCalls.TheImpl as host_calls
 use Rattle.sqlite.below.sqlite_std_file.specs.contracts.record.Record as record_of_calls
 use Rattle.sqlite_keeper.specs.contracts.file.RecordFile as record_file
+use Rattle.sqlite_keeper.specs.contracts.named.Named as named
 use Rattle.sqlite_keeper.specs.contracts.refusal.Refusal as refusal
 use Rattle.sqlite_keeper.specs.contracts.keeper.SqliteKeeper as keeper
 use Rattle.sqlite_keeper.specs.contracts.keeper.SqliteKeeper.TheInside as inside
@@ -41,6 +43,9 @@ file_send =
       (statement.the_send, (statement.the_send, tt)),
     )
 
+named_send : IsSend named.the_row
+named_send = search sendable
+
 refusal_send : IsSend refusal.the_row
 refusal_send = search sendable
 
@@ -52,7 +57,16 @@ fields_send =
         string.the_send _ _ handle.the_send heap.frees,
         (
           option.the_send _ file_send,
-          (option.the_send _ refusal_send, (search sendable, (search sendable, (search sendable, tt)))),
+          (
+            named_send,
+            (
+              option.the_send _ (pair.the_send _ (disk.the_send host.the_row unknown.the_row host_calls.ghosts start.ghosts host_send)),
+              (
+                search sendable,
+                (option.the_send _ refusal_send, (search sendable, (search sendable, (search sendable, tt)))),
+              ),
+            ),
+          ),
         ),
       ),
     )

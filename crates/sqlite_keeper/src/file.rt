@@ -5,7 +5,7 @@ ghost use Rattle.std.specs.Prelude.{◌≡◌, OnErr};
 use crate::refusal::Refusal;
 use crate::table::{Prepared, Table, prepare};
 use sqlite::types::ValueRef;
-use sqlite::{Connection, File, FileStore, Row, Statement, params};
+use sqlite::{Connection, File, FileStore, Files, Row, Statement, params};
 use std::fs;
 
 /// A database in a file that has the table of records, with its statements compiled.
@@ -71,6 +71,16 @@ impl RecordFile {
     {
         let row = self.fetch.query_row(&mut self.database, params![number])?;
         copy_bytes(&row, into)
+    }
+
+    /// The database and its log, still open and locked. Nothing is written.
+    pub fn into_files(self) -> Files<File> {
+        let RecordFile {
+            database,
+            append: _,
+            fetch: _,
+        } = self;
+        database.into_store().close()
     }
 
     /// Copies what waits in the log into the database, where that can be done, and closes both.

@@ -7,8 +7,10 @@ ghost use Rattle.ofx_ports.specs.Kept.{Appended, KnowsLanding, counted, put_fail
 ghost use Rattle.sqlite_keeper.specs.SqliteKeeperView.{put_fault, fetch_fault};
 
 use crate::file::RecordFile;
+use crate::named::Named;
 use crate::refusal::Refusal;
 use ofx_ports::{Failed, FetchFault, Keeper, PutFault};
+use sqlite::{File, Files};
 use std::marker::Model;
 
 /// The records in a file, one row of its table `records` for each, numbered from 1. There are taken to be as many as the greatest
@@ -16,6 +18,9 @@ use std::marker::Model;
 ///
 /// A record is on the disk when its append is acknowledged. A keeper over a file that couldn't be opened has one
 /// record and refuses every call, so that whoever goes over the records meets the fault at the first.
+///
+/// After a sync that failed the file is lost, and each later append and settling fails: the system may have dropped what was
+/// written, and report no further error. So it is where its path doesn't lead to it any more.
 ///
 /// ```rust
 /// use ofx_ports::Keeper;
@@ -35,6 +40,11 @@ pub struct SqliteKeeper {
     path: String,
     // None where it was never opened, or was given up in settling and could not be opened again.
     file: Option<RecordFile>,
+    // Which file of the machine it is.
+    named: Named,
+    // The files after an append that failed, locked until it is settled.
+    aside: Option<Files<File>>,
+    is_lost: bool,
     // Why it was never opened.
     refusal: Option<Refusal>,
     count: u64,
@@ -66,6 +76,9 @@ impl Drop for SqliteKeeper {
             rt: _,
             path: _,
             file,
+            named: _,
+            aside: _,
+            is_lost: _,
             refusal: _,
             count: _,
             is_unsettled: _,
@@ -81,6 +94,7 @@ impl Drop for SqliteKeeper {
 struct Opened {
     path: String,
     file: RecordFile,
+    named: Named,
     count: u64,
 }
 
@@ -88,7 +102,13 @@ impl Opened {
     fn at(rt: &HostRuntime, path: &str) -> Result<Opened, Refusal> {
         let path = String::from_str(rt.alloc(), path)?;
         let (file, count) = RecordFile::open(rt, path.as_str())?;
-        Ok(Opened { path, file, count })
+        let named = Named::at(rt, path.as_str());
+        Ok(Opened {
+            path,
+            file,
+            named,
+            count,
+        })
     }
 }
 
@@ -104,10 +124,20 @@ impl SqliteKeeper {
         ensures unopened { IsSome result.refusal → result.size ≡ 1 }
     {
         match Opened::at(rt, path) {
-            Ok(Opened { path, file, count }) => SqliteKeeper {
+            Ok(
+                Opened {
+                    path,
+                    file,
+                    named,
+                    count,
+                },
+            ) => SqliteKeeper {
                 rt: *rt,
                 path,
                 file: Some(file),
+                named,
+                aside: None,
+                is_lost: false,
                 refusal: None,
                 count,
                 is_unsettled: false,
@@ -125,10 +155,42 @@ impl SqliteKeeper {
             rt,
             path: String::new(rt.alloc()),
             file: None,
+            named: Named::NOTHING,
+            aside: None,
+            is_lost: false,
             refusal: Some(refusal),
             count: 1,
             is_unsettled: false,
             faults: 0,
+        }
+    }
+
+    /// Whether a sync of it failed, or its path didn't lead to it any more where a record was to be written.
+    pub fn is_lost(&self) -> bool {
+        self.is_lost
+    }
+
+    // Whether its path leads to another file, or to none. From then on it is lost.
+    fn has_lost_name(&mut self) -> bool
+        ensures { self.new ≡ self.old }
+    {
+        if !self.named.is_at(&self.rt, self.path.as_str()) {
+            self.is_lost = true;
+        }
+        self.is_lost
+    }
+
+    // Takes the file apart after an append that failed, since what an error left of it tells nothing. It stays locked. It is lost
+    // where a sync failed.
+    fn set_aside(&mut self)
+        ensures { self.new ≡ self.old }
+    {
+        if let Some(file) = self.file.take() {
+            let files = file.into_files();
+            if !files.may_be_used() {
+                self.is_lost = true;
+            }
+            self.aside = Some(files);
         }
     }
 
@@ -140,6 +202,9 @@ impl SqliteKeeper {
     {
         if let Some(why) = self.refusal {
             return Err(why);
+        }
+        if self.has_lost_name() {
+            return Err(Refusal::Failed);
         }
         let Some(file) = &mut self.file else {
             return Err(Refusal::Failed);
@@ -177,15 +242,19 @@ impl SqliteKeeper {
         if let Some(why) = self.refusal {
             return Err(why);
         }
+        if self.has_lost_name() {
+            return Err(Refusal::Failed);
+        }
         let greatest = self.reopen()?;
         is_one_more(self.count, greatest)
     }
 
-    // Opens the file anew, since what an error left of the open one tells nothing. The answer is the greatest number in it.
+    // Opens the file anew. The answer is the greatest number in it.
     fn reopen(&mut self) -> Result<u64, Refusal>
         ensures { self.new ≡ self.old }
     {
         self.file = None;
+        self.aside = None;
         let (file, greatest) = RecordFile::reopen(&self.rt, self.path.as_str())?;
         self.file = Some(file);
         Ok(greatest)
@@ -245,6 +314,7 @@ impl Keeper for SqliteKeeper {
             }
             Err(Refusal::OutOfMemory) => Err(PutFault::OutOfMemory),
             Err(Refusal::Failed) => {
+                self.set_aside();
                 self.count_fault();
                 self.is_unsettled = true;
                 Err(PutFault::Failed)

@@ -6,6 +6,7 @@
 
 mod file;
 mod keeper;
+mod named;
 mod refusal;
 mod table;
 

@@ -14,6 +14,7 @@ ghost use Rattle.bank_ledger.specs.Balanced.{AreBalanced};
 use crate::ask::answer_asks;
 use crate::book::Book;
 use crate::prepared::{Prepared, ReplyBytes};
+use crate::reply_bound::ReplyBound;
 use bank_accounts::Held;
 use bank_ledger::Draft;
 use bank_model::{Event, Printer};
@@ -97,7 +98,8 @@ impl<P: Printer> Book<P> {
         Ok(Prepared::new(&self.setup, &self.ledger, event, added, None, None, bytes))
     }
 
-    /// Answers a file whose name isn't kept: its asks are answered, and the reply is printed.
+    /// Answers a file whose name isn't kept: its asks are answered, and the reply is printed. Refused where the reply is longer
+    /// than the bank lets a new one be.
     fn prepare_anew(
         &self,
         alloc: Global,
@@ -121,10 +123,14 @@ impl<P: Printer> Book<P> {
         }) }
     {
         let mut draft = self.draft(alloc, held, sent);
-        let replies = answer_asks(&mut draft, alloc, file.asks.items())?;
+        let bound = ReplyBound::of(self.most);
+        let replies = answer_asks(&mut draft, alloc, file.asks.items(), bound)?;
         let added = draft.finish();
         let reply = reply_file(sent.1, file, replies)?;
         let reported = self.printer.print(alloc, &reply)?;
+        if reported.len() > self.most {
+            return Err(OutOfMemory);
+        }
         let kept = kept_copy(alloc, &file.newer, &reported)?;
         let older = file.older.copy()?;
         let newer = file.newer.copy()?;

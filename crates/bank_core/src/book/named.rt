@@ -1,6 +1,6 @@
 //! The accounts that an event names.
 
-ghost use Rattle.std.specs.Prelude.{◌≡◌, ◌↔◌, map, Some, IfOk, Contains};
+ghost use Rattle.std.specs.Prelude.{◌≡◌, ◌<◌, ◌↔◌, length, map, Some, IfOk, All, Contains};
 ghost use Rattle.std.specs.List.Sorted.{IsStrictlyIncreasing};
 ghost use Rattle.ofx_types.specs.declared.number.AcctId.{AcctId};
 ghost use Rattle.bank_model.specs.Rules as rules;
@@ -17,6 +17,7 @@ impl<P: Printer> Book<P> {
         ensures rising { IfOk result (λ accounts. IsStrictlyIncreasing (map (λ account. account.0) accounts.items)) }
         ensures named { IfOk result (λ accounts. (account : AcctId) → Contains accounts.items account
             ↔ Contains (rules.named self.now.setup self.now.state event.now) (Some account)) }
+        ensures known { IfOk result (λ accounts. All (λ account. account.0 < length self.now.tables) accounts.items) }
     {
         match event {
             Event::File(_, file) => self.setup.named_by_file(alloc, file),

@@ -54,6 +54,7 @@ fn served_by<N: BankName, R: Abort + Wait>(
     requires opening { opened.state ≡ N.opening }
     requires first { opened.opened ≡ N.first }
     requires board { opened.board ≡ N.board }
+    requires tables { opened.tables ≡ N.tables }
 {
     let (bank, mut pass) = Bank::<N, _, _>::begin(opened);
     let mut clock = MemClock::new(alloc, &[NOON, AN_HOUR_LATER]).expect(rt, "a clock");

@@ -107,14 +107,14 @@ fn sent_by(rt: &impl Abort, alloc: Global, payer: Payer, peer: u64) -> Vec<u8> {
 }
 
 /// The number after the first of these tags, if there is one.
-fn number_after(text: &str, tag: &str) -> Option<u64> {
+pub fn number_after(text: &str, tag: &str) -> Option<u64> {
     let (_, rest) = text.split_once(tag)?;
     let (number, _) = rest.split_once("\r\n")?;
     number.parse::<u64>().ok()
 }
 
 /// The replies that came over a link, in order.
-fn replies_in<'a>(rt: &impl Abort, alloc: Global, written: &'a str) -> Vec<&'a str> {
+pub fn replies_in<'a>(rt: &impl Abort, alloc: Global, written: &'a str) -> Vec<&'a str> {
     let mut replies = Vec::new(alloc);
     for reply in written.split("HTTP/1.1 200 OK\r\n") {
         replies.push(reply).expect(rt, "room");
@@ -169,7 +169,7 @@ fn judged(rt: &impl Abort, alloc: Global, written: &[Vec<u8>]) -> Vec<u64> {
 }
 
 /// A keeper of these records.
-fn kept_again(rt: &impl Abort, alloc: Global, records: &[Vec<u8>]) -> MemKeeper
+pub fn kept_again(rt: &impl Abort, alloc: Global, records: &[Vec<u8>]) -> MemKeeper
     ensures { is_some result.landed ≡ false }
 {
     let mut keeper = MemKeeper::new(alloc);

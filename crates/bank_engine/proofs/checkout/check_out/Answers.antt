@@ -1,21 +1,16 @@
-use Rattle.std.proofs.Common.{◌≡◌, ◌∙◌, ap, sym, subst, map, length, List, Option}
+use Rattle.std.proofs.Common.{◌≡◌, ◌∙◌, map}
 use Rattle.bank_model.specs.Rules.{named}
 use Rattle.bank_accounts.specs.AccountView.{AccountView}
-use Rattle.bank_accounts.specs.Pool.{AreAllPooled}
 use Rattle.bank_accounts.specs.HeldAccounts.{AreHeld, AreNamed}
-use Rattle.bank_solo.proofs.Accounts.{length_in, all_home, named_are_held, named_known, only_named, when_done}
+use Rattle.bank_solo.proofs.Accounts.{all_home, named_are_held, named_known, only_named, when_done}
 use Rattle.bank_engine.proofs.checkout.check_out.Goals as goal
 
 pub check_out-requires-clause-known : goal.check_out-requires-clause-known
 check_out-requires-clause-known g c =
-    let setup = c.args.book.now.setup in
-    let state = c.args.book.now.state in
-    rw c.deref.ensures.value
-    (named_known setup state c.args.event.now c.in_ok-numbers.numbers.items (length c.args.pool.now)
-    (ap (λ (l : List (Option AccountView)). length l) c.requires.pool ∙ length_in setup state) c.in_ok-numbers.ensures.named)
+    rw c.deref.ensures.value (named_known c.args.book.now.tables c.args.pool.now c.in_ok-numbers.numbers.items c.requires.pool.count c.in_ok-numbers.ensures.known)
 
 pub check_out-requires-clause-pool : goal.check_out-requires-clause-pool
-check_out-requires-clause-pool g c = subst AreAllPooled (sym c.requires.pool) (all_home c.args.book.now.setup c.args.book.now.state)
+check_out-requires-clause-pool g c = all_home c.args.book.now.tables c.args.pool.now c.args.held.now c.requires.pool c.requires.none_held
 
 pub returns-clause-named : goal.returns-clause-named
 returns-clause-named g c =

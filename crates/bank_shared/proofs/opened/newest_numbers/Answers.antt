@@ -1,5 +1,4 @@
-use Rattle.std.proofs.Common.{ap, arith, ◌∙◌}
-use Rattle.bank_shared.proofs.Starting.{none_so_far, one_more_number, all_newest}
+use Rattle.bank_shared.proofs.Starting.{none_so_far}
 use Rattle.bank_shared.proofs.opened.newest_numbers.Goals as goal
 
 pub loop-object-init : goal.loop-object-init

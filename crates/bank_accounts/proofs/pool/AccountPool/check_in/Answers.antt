@@ -5,7 +5,7 @@ use Rattle.std.specs.List.{All}
 use Rattle.bank_accounts.specs.AccountView.{AccountView}
 use Rattle.bank_accounts.specs.HeldAccounts.{NumbersRise}
 use Rattle.bank_accounts.specs.Pool.{AreCheckedOut}
-use Rattle.bank_accounts.proofs.HomeLemmas.{lent_back, lent_all_back}
+use Rattle.bank_accounts.proofs.HomeLemmas.{lent_back}
 use Rattle.bank_accounts.proofs.pool.AccountPool.check_in.Goals as goal
 
 pub loop-account-preserved : goal.loop-account-preserved
@@ -16,14 +16,14 @@ loop-account-preserved c =
     let known = All-pop (λ (account : AccountView). account.number.0 < length c.loop-account.self) c.loop-account.held c.pop.new.self (Some c.in-Some.account) last c.loop-account.invariant.known in
     record {
       known = subst (λ (n : _). All (λ (account : AccountView). account.number.0 < n) c.pop.new.self) (sym size) known.0;
-      checked_out = λ all checked_out.
-          subst (λ (slots : List (Option AccountView)). AreCheckedOut all slots c.pop.new.self) (sym c.put.ensures)
-          (lent_back all c.loop-account.self c.pop.new.self c.in-Some.account
-          (subst (AreCheckedOut all c.loop-account.self) last (c.loop-account.invariant.checked_out all checked_out))
+      checked_out = λ tables checked_out.
+          subst (λ (slots : List (Option AccountView)). AreCheckedOut tables slots c.pop.new.self) (sym c.put.ensures)
+          (lent_back tables c.loop-account.self c.pop.new.self c.in-Some.account
+          (subst (AreCheckedOut tables c.loop-account.self) last (c.loop-account.invariant.checked_out tables checked_out))
           (subst NumbersRise last c.in-Some.ensures.rising)
           known.1);
     }
 
 pub returns-clause-pool : goal.returns-clause-pool
-returns-clause-pool c all checked_out =
-    lent_all_back all c.loop-account.self (subst (AreCheckedOut all c.loop-account.self) c.in_default.ensures.none.0 (c.loop-account.invariant.checked_out all checked_out))
+returns-clause-pool c tables checked_out =
+    subst (AreCheckedOut tables c.loop-account.self) (c.in_default.ensures.none.0 ∙ sym c.in_default.ensures.none.1) (c.loop-account.invariant.checked_out tables checked_out)

@@ -39,7 +39,7 @@ new-requires g c =
     (record { user = c.finish-added.ensures.user; day = c.finish-added.ensures.day; entries = c.finish-added.ensures.entries; uids = c.finish-added.ensures.uids; rows = c.finish-added.ensures.rows; balances = c.finish-added.ensures.balances })
     c.in_ok-replies.ensures.after c.in_ok-replies.ensures.replies c.in_ok-reply.ensures c.in_ok-reported.ensures (λ some. c.in_ok-kept.ensures some ∙ c.deref.ensures.value) in
     rw (c.in_ok-older.ensures, c.in_ok-newer.ensures)
-    (subst (λ (b : ReservedBook). IsPrepared b.setup b.state c.finish-added.result c.args.file.now.older c.args.file.now.newer c.in_ok-kept.kept.items) (sym c.self.view_is)
+    (subst (λ (b : ReservedBook). IsPrepared b.setup b.state c.args.event.now c.finish-added.result c.args.file.now.older c.args.file.now.newer c.in_ok-kept.kept.items) (sym c.self.view_is)
     (IsPrepared-anew c.args.self.now.setup c.args.self.now.state c.args.event.now c.args.sent.0 c.args.sent.1 c.args.file.now c.finish-added.result c.in_ok-reported.reported.items c.in_ok-kept.kept.items c.requires.event within sound c.requires.moment c.requires.legal c.requires.absent answered))
 
 pub returns : goal.returns

@@ -19,7 +19,7 @@ new-requires g c =
     let done = unasked_post c.args.self.now.setup c.args.self.now.state c.args.event.now c.args.held.now (record { 0 = 0 }) c.args.at c.draft-draft.result c.post.new.draft c.finish-added.result c.args.id c.none-bytes.result.kept.items c.none-bytes.result.reported.items c.draft-draft.ensures c.requires.event c.in_ok-post.ensures
     (record { user = c.finish-added.ensures.user; day = c.finish-added.ensures.day; entries = c.finish-added.ensures.entries; uids = c.finish-added.ensures.uids; rows = c.finish-added.ensures.rows; balances = c.finish-added.ensures.balances })
     c.none-bytes.ensures.reported within sound c.requires.moment c.requires.legal in
-    subst (λ (b : ReservedBook). IsPrepared b.setup b.state c.finish-added.result None None c.none-bytes.result.kept.items) (sym c.self.view_is) done.prepared
+    subst (λ (b : ReservedBook). IsPrepared b.setup b.state c.args.event.now c.finish-added.result None None c.none-bytes.result.kept.items) (sym c.self.view_is) done.prepared
 
 pub returns : goal.returns
 returns g c =

@@ -14,3 +14,6 @@ returns-clause-ready g c =
     c.answer.ensures.setup c.answer.ensures.state c.requires.moment
     (subst (λ (v : EngineView). IsLegal v.setup v.state c.args.at c.args.event) (sym c.self.view_is) c.requires.legal)
     made.of made.before made.event made.after made.reply made.room c.entries-added.ensures
+
+pub invariant_of-self-in_err-rec : goal.invariant_of-self-in_err-rec
+invariant_of-self-in_err-rec g c = idle c.answer.new.self c.self.inside.pending (ap (λ (v : EngineView). v.pending) c.self.view_is ∙ c.requires.settled)

@@ -1,4 +1,4 @@
-use Rattle.std.proofs.Common.{◌∙◌}
+use Rattle.std.proofs.Common.{◌∙◌, ap}
 use Rattle.bank_shared.proofs.Begun.{first_pass}
 use Rattle.bank_shared.proofs.bank.Bank.begin.Goals as goal
 
@@ -9,6 +9,8 @@ invariant_of-bank g c = (
   c.into_parts-parts.ensures.within,
   (c.into_parts-parts.ensures.holds.records, c.into_parts-parts.ensures.holds.reopens),
   c.into_parts-parts.ensures.begins,
+  ap (λ r. r.tables) c.into_fields-setup.ensures.row ∙ c.into_parts-parts.ensures.row,
+  c.into_parts-parts.ensures.count,
 )
 
 pub returns-clause-pass : goal.returns-clause-pass

@@ -2,7 +2,6 @@ use Rattle.std.proofs.Common.{IfOk, IfErr, ap, sym, subst, ◌∙◌}
 use Rattle.bank_model.specs.Rules.{named}
 use Rattle.bank_accounts.specs.HeldAccounts.{AreHeld}
 use Rattle.bank_engine.specs.Views.{JournalView}
-use Rattle.token_board.specs.Publishing.{MayPublish}
 use Rattle.bank_engine.specs.Calls.{Answers, FailsToCommit}
 use Rattle.bank_shared.proofs.CallLemmas.{carried, true_committed, true_held}
 use Rattle.token_board.specs.Tokens.{AreAbove}
@@ -47,6 +46,7 @@ invariant_of-self g c = (
     begins = c.self.invariant.1.begins;
     belong = c.self.invariant.1.belong;
   },
+  c.commit_at-committed.ensures.tables ∙ c.self.invariant.2,
 )
 
 pub returns-clause-answers : goal.returns-clause-answers

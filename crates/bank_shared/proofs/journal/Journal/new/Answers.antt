@@ -18,4 +18,5 @@ invariant_of-result g c = (
     belong = opening_belongs g.N.BankName.setup g.N.BankName.opening c.entries_belong.ensures.steps (subst IsWithinLimits c.requires.setup c.setup-setup.ensures.within)
         (c.requires.holds.records, c.requires.holds.reopens);
   },
+  ap (λ (v : EngineView). v.tables) c.new.ensures ∙ c.requires.tables,
 )

@@ -48,6 +48,7 @@ invariant_of-self g c = (
     begins = c.self.invariant.1.begins;
     belong = c.self.invariant.1.belong;
   },
+  c.settle_at-settled.ensures.tables ∙ c.self.invariant.2,
 )
 
 pub invariant_of-self-2 : goal.invariant_of-self-2
@@ -63,6 +64,7 @@ invariant_of-self-2 g c = (
     begins = c.self.invariant.1.begins;
     belong = c.self.invariant.1.belong;
   },
+  c.settle_at-settled.ensures.tables ∙ c.self.invariant.2,
 )
 
 pub returns-in_err-_adopted-clause-fails : goal.returns-in_err-_adopted-clause-fails

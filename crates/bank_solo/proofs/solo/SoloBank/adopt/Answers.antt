@@ -1,21 +1,18 @@
-use Rattle.std.proofs.Common.{◌∙◌, sym, ap, subst}
-use Rattle.bank_model.specs.Rules.{named, state_after}
-use Rattle.bank_accounts.specs.HeldAccounts.{AreHeld}
-use Rattle.bank_solo.specs.Solo.{SoloView}
-use Rattle.bank_solo.proofs.Accounts.{held_balanced, same_known, adopted}
+use Rattle.std.proofs.Common.{sym, subst}
+use Rattle.bank_model.specs.SetupForm.{IsWithinLimits}
+use Rattle.bank_solo.proofs.Accounts.{are_known, all_back}
 use Rattle.bank_solo.proofs.solo.SoloBank.adopt.Goals as goal
 
-pub adopt-reply-requires-clause-balanced : goal.adopt-reply-requires-clause-balanced
-adopt-reply-requires-clause-balanced g c = held_balanced c.self.inside.book.setup c.self.inside.book.state c.self.inside.pool c.self.inside.held c.self.invariant.1
+pub adopt-reply-requires-clause-own : goal.adopt-reply-requires-clause-own
+adopt-reply-requires-clause-own g c = c.self.invariant.1.own
 
 pub check_in-requires : goal.check_in-requires
-check_in-requires g c = same_known c.self.inside.book.setup c.self.inside.book.state c.self.inside.pool c.self.inside.held c.adopt-reply.new.held c.self.invariant.1 c.adopt-reply.ensures.numbers
+check_in-requires g c =
+    are_known c.self.inside.book.tables c.adopt-reply.new.self.tables c.self.inside.pool c.self.inside.held c.adopt-reply.new.held c.adopt-reply.ensures.tables c.self.invariant.1 c.adopt-reply.ensures.own
 
 pub invariant_of-self : goal.invariant_of-self
-invariant_of-self g c =
-    adopted c.self.inside.book.setup c.adopt-reply.new.self.setup c.self.inside.book.state c.adopt-reply.new.self.state c.args.at c.args.prepared.event c.self.inside.pool c.check_in.new.self c.self.inside.held c.adopt-reply.new.held c.check_in.new.held
-    c.unnamed_accounts_stay.ensures c.self.invariant.0 c.self.invariant.1
-    (subst (λ (bank : SoloView). AreHeld bank.held (named bank.setup bank.state c.args.prepared.event)) (sym c.self.view_is) c.requires.named)
-    c.adopt-reply.ensures.numbers c.adopt-reply.ensures.setup
-    (c.adopt-reply.ensures.state ∙ c.requires.after ∙ ap (λ (bank : SoloView). state_after bank.setup bank.state c.args.at c.args.prepared.event) (sym c.self.view_is))
-    c.adopt-reply.ensures.balanced c.check_in.ensures.pool c.check_in.ensures.none_held
+invariant_of-self g c = (
+  subst IsWithinLimits (sym c.adopt-reply.ensures.setup) c.self.invariant.0,
+  all_back c.self.inside.book.tables c.adopt-reply.new.self.tables c.self.inside.pool c.check_in.new.self c.self.inside.held c.adopt-reply.new.held c.check_in.new.held
+      c.adopt-reply.ensures.tables c.self.invariant.1 c.adopt-reply.ensures.numbers c.adopt-reply.ensures.own c.check_in.ensures.pool,
+)

@@ -1,6 +1,5 @@
-use Rattle.bank_solo.proofs.Accounts.{opened_in}
+use Rattle.std.proofs.Common.{sym}
 use Rattle.bank_solo.proofs.solo.SoloBank.begin.Goals as goal
 
 pub new-requires-clause-accounts : goal.new-requires-clause-accounts
-new-requires-clause-accounts g c =
-    opened_in c.args.setup c.in_ok-book.book.setup c.in_ok-book.book.state c.in_ok-book.accounts.items c.in_ok-book.ensures.setup c.in_ok-book.ensures.state c.in_ok-book.ensures.accounts
+new-requires-clause-accounts g c = record { numbered = c.in_ok-book.ensures.accounts.numbered; own = sym c.in_ok-book.ensures.tables }

@@ -3,18 +3,17 @@ use Rattle.bank_model.specs.Rules.{named}
 use Rattle.bank_accounts.specs.AccountView.{AccountView}
 use Rattle.bank_accounts.specs.HeldAccounts.{AreHeld, AreNamed}
 use Rattle.bank_solo.specs.Solo.{SoloView}
-use Rattle.bank_solo.proofs.Accounts.{length_in, home_all, named_are_held, named_known, only_named, when_done}
+use Rattle.bank_solo.proofs.Accounts.{all_home, named_are_held, named_known, only_named, when_done}
 use Rattle.bank_solo.proofs.solo.SoloBank.check_out.Goals as goal
 
 pub check_out-requires-clause-known : goal.check_out-requires-clause-known
 check_out-requires-clause-known g c =
     rw c.deref.ensures.value
-    (named_known c.self.inside.book.setup c.self.inside.book.state c.args.event.now c.in_ok-numbers.numbers.items (length c.self.inside.pool)
-    (c.self.invariant.1.count ∙ length_in c.self.inside.book.setup c.self.inside.book.state) c.in_ok-numbers.ensures.named)
+    (named_known c.self.inside.book.tables c.self.inside.pool c.in_ok-numbers.numbers.items c.self.invariant.1.count c.in_ok-numbers.ensures.known)
 
 pub check_out-requires-clause-pool : goal.check_out-requires-clause-pool
 check_out-requires-clause-pool g c =
-    home_all c.self.inside.book.setup c.self.inside.book.state c.self.inside.pool c.self.inside.held c.self.invariant.1
+    all_home c.self.inside.book.tables c.self.inside.pool c.self.inside.held c.self.invariant.1
     (ap (λ (bank : SoloView). bank.held) c.self.view_is ∙ c.requires)
 
 pub returns-clause-named : goal.returns-clause-named

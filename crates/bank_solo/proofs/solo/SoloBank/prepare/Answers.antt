@@ -3,11 +3,10 @@ use Rattle.bank_model.specs.Rules.{named}
 use Rattle.bank_accounts.specs.AccountView.{AccountView}
 use Rattle.bank_accounts.specs.HeldAccounts.{AreNamed}
 use Rattle.bank_solo.specs.Solo.{SoloView}
-use Rattle.bank_solo.proofs.Accounts.{held_balanced}
 use Rattle.bank_solo.proofs.solo.SoloBank.prepare.Goals as goal
 
-pub answer-requires-clause-balanced : goal.answer-requires-clause-balanced
-answer-requires-clause-balanced g c = held_balanced c.self.inside.book.setup c.self.inside.book.state c.self.inside.pool c.self.inside.held c.self.invariant.1
+pub answer-requires-clause-own : goal.answer-requires-clause-own
+answer-requires-clause-own g c = c.self.invariant.1.own
 
 pub returns-in-Ok-clause-only : goal.returns-in-Ok-clause-only
 returns-in-Ok-clause-only g c =

@@ -22,7 +22,7 @@ returns-clause-committed c =
 pub returns-clause-reply : goal.returns-clause-reply
 returns-clause-reply c =
     let old : JournalView =
-    record { setup = c.self.inside.engine.setup; state = c.self.inside.engine.state; log = []; pending = c.self.inside.engine.pending; records = None; landed = None; unsettled = false; faults = 0 } in
+    record { setup = c.self.inside.engine.setup; state = c.self.inside.engine.state; tables = c.self.inside.engine.tables; log = []; pending = c.self.inside.engine.pending; records = None; landed = None; unsettled = false; faults = 0 } in
     elim c.match-commit.branch [
       | in-Ok w ↦
           subst (λ (result : _). IfOk result (λ reply. option_map (λ bytes. bytes.items) reply ≡ reply_to c.args.self.now c.args.at c.args.event)) (sym w.result-is)

@@ -2,4 +2,4 @@ use Rattle.serve_tests.proofs.servers.crowd.replies_of_opened.Given as goal
 
 -- the call is one of the bank that has opened
 abbrev pub ghosts-connected : goal.ghosts-connected
-ghosts-connected g a = record { setup = a.opened.setup; opening = a.opened.state; first = a.opened.opened; board = a.opened.board }
+ghosts-connected g a = record { setup = a.opened.setup; opening = a.opened.state; first = a.opened.opened; board = a.opened.board; tables = a.opened.tables }

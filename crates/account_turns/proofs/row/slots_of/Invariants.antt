@@ -1,5 +1,0 @@
-use Rattle.std.proofs.Common.{◌≡◌, map, Some}
-use Rattle.account_turns.proofs.row.slots_of.Given as goal
-
-abbrev pub invariant-loop-account : goal.invariant-loop-account
-invariant-loop-account l = l.slots.items ≡ map Some l.yielded

@@ -1,3 +1,0 @@
-pub mod AccountTable
-pub mod AccountView
-pub mod Row

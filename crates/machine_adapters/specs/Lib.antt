@@ -1,0 +1,2 @@
+-- What the adapters wrap.
+pub mod Adapters

@@ -1,0 +1,7 @@
+mod FieldLaws
+mod ListLaws
+mod BodyLaws
+mod MessageLaws
+mod Loops
+mod Groups
+mod RequestLaws

@@ -1,0 +1,4 @@
+pub mod Statements
+pub mod SigningOn
+pub mod SignOnView
+pub mod Laws

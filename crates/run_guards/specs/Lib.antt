@@ -1,0 +1,2 @@
+-- What the guards of a run wrap.
+pub mod Within
