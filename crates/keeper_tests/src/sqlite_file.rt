@@ -155,7 +155,8 @@ fn settling_finds_what_stands_in_the_file(rt: HostRuntime) {
     drop(keeper);
     let mut keeper = stopped(&rt, &rt, "settled", "settled/records");
     landed(&rt, &rt);
-    settles(&rt, &mut keeper, Ok(true), 1);
+    let holds = keeper.settle().expect(&rt, "an answer");
+    assert!(rt; holds && keeper.len() == 2);
     fetches(&rt, &mut keeper, 1, &mut into, Err(FetchFault::Failed));
     fetches(&rt, &mut keeper, 2, &mut into, Ok(b"\x02"));
     keep(&rt, &mut keeper, b"three");
